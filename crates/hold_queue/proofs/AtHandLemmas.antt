@@ -11,16 +11,11 @@ use Rattle.hold_queue.specs.Hand.{TakesFirst, TakesSecond}
 
 -- each way takes one of the pieces at hand, and leaves those at hand of what it leaves
 take-of_plain : (hold : Hold) (piece : Piece) (queue : List Piece) (held : Option Piece) → Take hold (at_hand hold held (piece ∷ queue)) piece (at_hand hold held queue)
-take-of_plain Avoided piece queue held = take_first
-take-of_plain Allowed piece queue None = take_first
-take-of_plain Allowed piece queue (Some kept) = take_second
+take-of_plain hold piece queue held = search (rules, take_first, take_second)
 
 take-of_way : {hold : Hold} {queue : List Piece} {held : Option Piece} {piece : Piece} {rest : List Piece} {after : Option Piece}
     → Way hold queue held piece rest after → Take hold (at_hand hold held queue) piece (at_hand hold after rest)
-take-of_way (plain {hold = hold} {piece = piece} {queue = queue} {held = held}) = take-of_plain hold piece queue held
-take-of_way exchange = take_first
-take-of_way first_hold = take_second
-take-of_way last = take_first
+take-of_way h = search (rules, take-of_plain, take_first, take_second)
 
 pub takes-of_permits : (hold : Hold) (queue : List Piece) (held : Option Piece) (pieces : List Piece) → Permits hold queue held pieces → Takes hold (at_hand hold held queue) pieces
 takes-of_permits hold queue held [] permitted = tt
@@ -67,15 +62,11 @@ pub take-of_first : (hold : Hold) (pieces : List Piece) (piece : Piece) (rest : 
 take-of_first hold pieces piece rest first = subst (λ l. Take hold l piece rest) (sym first) take_first
 
 pub take-of_second : (hold : Hold) (pieces : List Piece) (piece : Piece) (rest : List Piece) → hold ≡ Allowed → TakesSecond pieces piece rest → Take hold pieces piece rest
-take-of_second hold pieces piece rest allowed second =
-    let here : Take Allowed (second.0 ∷ piece ∷ second.1) piece (second.0 ∷ second.1) = take_second in
-    subst (λ h. Take h pieces piece rest) (sym allowed)
-    (subst (λ l. Take Allowed pieces piece l) (sym second.3) (subst (λ l. Take Allowed l piece (second.0 ∷ second.1)) (sym second.2) here))
+take-of_second hold pieces piece rest allowed second = search (rules, take_second)
 
 -- no more pieces are taken than are at hand
 take-length : {hold : Hold} {pieces : List Piece} {piece : Piece} {rest : List Piece} → Take hold pieces piece rest → length pieces ≡ length rest + 1
-take-length take_first = omega arith
-take-length take_second = omega arith
+take-length h = search rules
 
 pub takes-length : (hold : Hold) (hand pieces : List Piece) → Takes hold hand pieces → length pieces ≤ length hand
 takes-length hold hand [] taken = omega arith

@@ -1,5 +1,5 @@
 -- So many pieces are taken from the first of the pieces at hand alone.
-use Rattle.std.proofs.Common.{ℕ, zero, suc, ◌≡◌, ◌≤◌, ◌↔◌, List, [], ◌∷◌, length, take, refl, subst, arith}
+use Rattle.std.proofs.Common.{ℕ, zero, suc, ◌≡◌, ◌≤◌, ◌↔◌, List, [], ◌∷◌, length, take, refl, arith, rules}
 use Rattle.srs.specs.declared.piece.Piece.{Piece}
 use Rattle.hold_queue.specs.declared.hold.Hold.{Hold}
 use Rattle.hold_queue.specs.declared.hold.Hold.TheVariants.{Allowed, Avoided}
@@ -42,9 +42,7 @@ take-whole Allowed (suc m) (first ∷ second ∷ hand) piece front take_second =
 takes-whole : (hold : Hold) (m : ℕ) (hand pieces : List Piece) → Takes hold (take m hand) pieces → Takes hold hand pieces
 takes-whole hold m hand [] taken = tt
 takes-whole hold zero hand (piece ∷ pieces) taken = absurd (take-nothing hold piece taken.0 taken.1)
-takes-whole hold (suc m) hand (piece ∷ pieces) taken =
-    let whole = take-whole hold m hand piece taken.0 taken.1 in
-    (whole.0, whole.1, takes-whole hold m whole.0 pieces (subst (λ front. Takes hold front pieces) whole.2 taken.2))
+takes-whole hold (suc m) hand (piece ∷ pieces) taken = search (rules, take-whole, (takes-whole hold m))
 
 pub takes-is_cut : (hold : Hold) (count : ℕ) (hand pieces : List Piece) → taken_from hold (length pieces) ≤ count → Takes hold hand pieces ↔ Takes hold (take count hand) pieces
 takes-is_cut hold count hand pieces enough = (takes-cut hold count hand pieces enough, takes-whole hold count hand pieces)

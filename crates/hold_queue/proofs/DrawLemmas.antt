@@ -1,5 +1,5 @@
 -- The families after a draw, case by case.
-use Rattle.std.proofs.Common.{◌≡◌, ℕ, zero, suc, ◌<◌, if◌then◌else◌, Bool, true, false, not, ◌&&◌, ◌||◌, ◌==◌, Option, Some, None, refl, ap, ◌∙◌, sym, subst, inl, inr, arith, ap₂, rules}
+use Rattle.std.proofs.Common.{◌≡◌, ℕ, zero, suc, ◌<◌, if◌then◌else◌, Bool, true, false, not, ◌&&◌, ◌||◌, ◌==◌, Option, Some, None, refl, ap, ◌∙◌, sym, inl, inr, arith, ap₂, rules}
 use Rattle.std.proofs.lemmas.Bool.{cases_Bool, cases_lt, or_cases, or_left, or_right, and_right}
 use Rattle.srs.specs.declared.piece.Piece.{Piece}
 use Rattle.queue_pattern.specs.Queues.{is_in}
@@ -12,18 +12,12 @@ use Rattle.hold_queue.proofs.FamilyBits.{has_set-empty, has_set-one}
 pub any_below-from : (test : ℕ → Bool) (n : ℕ) → any_below test n ≡ true → (k : ℕ) × (k < n) × (test k ≡ true)
 unfolding any_below
 any_below-from test zero h = cc
-any_below-from test (suc n) h = elim (or_cases (test n) (any_below test n) h) [
-  | inl here ↦ (n, omega arith, here)
-  | inr later ↦ let found = any_below-from test n later in (found.0, omega (arith, found.1), found.2)
-]
+any_below-from test (suc n) h = search (rules, or_cases, (any_below-from test n))
 
 pub any_below-to : (test : ℕ → Bool) (n k : ℕ) → k < n → test k ≡ true → any_below test n ≡ true
 unfolding any_below
 any_below-to test zero k within passes = absurd (omega arith)
-any_below-to test (suc n) k within passes = elim (cases_lt k n) [
-  | inl before ↦ or_right (test n) (any_below test n) (any_below-to test n k before passes)
-  | inr after ↦ let at : k ≡ n = omega arith in or_left (test n) (any_below test n) (subst (λ j. test j ≡ true) at passes)
-]
+any_below-to test (suc n) k within passes = search (rules, cases_lt, or_right, or_left, (any_below-to test n k))
 
 any_below-none : (test : ℕ → Bool) (n : ℕ) → ((k : ℕ) → k < n → test k ≡ false) → any_below test n ≡ false
 any_below-none test n none = elim (cases_Bool (any_below test n)) [

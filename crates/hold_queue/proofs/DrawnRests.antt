@@ -1,5 +1,5 @@
 -- A draw takes the first piece from the queues that may follow.
-use Rattle.std.proofs.Common.{◌≡◌, ℕ, zero, suc, ◌+◌, ◌-◌, ◌*◌, ◌<◌, Bool, true, false, not, cond, ◌&&◌, ◌==◌, nat_lt, Option, Some, None, List, [], ◌∷◌, length, map, Contains, get_or, refl, ap, ◌∙◌, sym, subst, inl, inr, ◌⊎◌, arith, ltb-true, rules}
+use Rattle.std.proofs.Common.{◌≡◌, ℕ, suc, ◌+◌, ◌-◌, ◌*◌, ◌<◌, Bool, true, false, not, cond, ◌&&◌, ◌==◌, nat_lt, Option, Some, None, List, [], ◌∷◌, length, map, Contains, get_or, refl, ap, ◌∙◌, sym, subst, arith, ltb-true, rules}
 use Rattle.std.specs.Int.{bit_at}
 use Rattle.std.proofs.Math.Nat.{mul_assoc, mul-zero}
 use Rattle.std.proofs.lemmas.Bool.{agree_below_at, eqb-true, and_parts, and_from, not-true}
@@ -64,8 +64,7 @@ moves-back draw piece before after drawn set within has = go draw refl (sym (dra
         → set_after d (whole - set_of piece) piece ≡ set → Moves draw piece before set
     made d is inside whole small passes next =
         let parts = with_piece-from piece before whole small passes in
-        let apart = out piece whole small parts.0 in
-        record { from = d; is = is; drawn_set = whole - set_of piece; within = omega arith; has = parts.1; inside = inside; lacks = apart.lacks; next = next }
+        search (rules, out)
 
     ends : (d : Draw) → draw ≡ Some d → (b : Bool) → d.is_last ≡ b → is_in piece d.element.set ≡ true
         → cond b (set == 0 && any_below (with_piece piece (has_set before)) 128) (with_piece piece (has_set before) set) ≡ true → Moves draw piece before set
@@ -83,8 +82,7 @@ moves-back draw piece before after drawn set within has = go draw refl (sym (dra
     enters d is false inside h = cc
 
     go : (o : Option Draw) → draw ≡ o → after_draw o piece (has_set before) set ≡ true → Moves draw piece before set
-    go None is h = cc
-    go (Some d) is h = enters d is (is_in piece d.element.set) refl h
+    go o is h = search (rules, enters)
 
 pub record Moved (after : Family) (set : ℕ) : Type 0 where
   pub within : set < 128
@@ -108,10 +106,7 @@ moves-on draw piece before after drawn d is inside set within has lacks = ends d
       within = omega arith;
       has = drawn.each 0 (omega arith) ∙ value true last 0 ∙ any_below-to (with_piece piece (has_set before)) 128 (set + set_of piece) (put piece set within lacks).within passes;
     })
-    ends false last = subst (Moved after) (sym (ap (λ b. cond b 0 (set + set_of piece)) last)) (record {
-      within = (put piece set within lacks).within;
-      has = drawn.each (set + set_of piece) (put piece set within lacks).within ∙ value false last (set + set_of piece) ∙ passes;
-    })
+    ends false last = search (rules, put, value, passes)
 
 pub code_within : (piece : Piece) → piece_code piece - 1 < 7
 code_within piece = ltb-true _ _ (each_piece (λ p. nat_lt (piece_code p - 1) 7) refl piece)
@@ -148,11 +143,7 @@ begins-from pieces n later piece queue among =
     let found = Contains-from_flat_map (λ p. map (λ rest. p ∷ rest) (tails (others p pieces) n later)) pieces (piece ∷ queue)
     (subst (λ qs. Contains qs (piece ∷ queue)) (tails-more pieces n later) among) in
     let tail = Contains-from_map (λ rest. found.0 ∷ rest) (tails (others found.0 pieces) n later) (piece ∷ queue) found.2 in
-    let same : found.0 ≡ piece = same_head tail.2 in
-    let rest : tail.0 ≡ queue = same_tail tail.2 in (
-      subst (Contains pieces) same found.1,
-      subst (λ q. Contains (tails (others piece pieces) n later) q) rest (subst (λ p. Contains (tails (others p pieces) n later) tail.0) same tail.1),
-    )
+    search (rules, same_head, same_tail)
   where
     same_head : {p q : Piece} {ps qs : List Piece} → p ∷ ps ≡ q ∷ qs → p ≡ q
     same_head e = cc
@@ -187,12 +178,10 @@ tails-some pieces n later piece set among some =
     let fewer : length (others piece pieces) ≡ length pieces - 1 = omega (arith, length-others piece pieces set among) in
     let product : length pieces * falling_factor (length pieces - 1) n * queue_count later ≡ length (tails pieces (suc n) later) =
     sym (whole ∙ ap (λ f. f * queue_count later) (falling_factor-more (length pieces) (suc n) n refl)) in
-    subst (λ k. 0 < k) (sym (rest ∙ ap (λ m. falling_factor m n * queue_count later) fewer))
-    (positive (length pieces) (falling_factor (length pieces - 1) n) (queue_count later) (subst (λ k. 0 < k) (sym product) some))
+    search (rules, positive)
   where
     factor : (a b : ℕ) → 0 < a * b → 0 < b
-    factor a zero h = absurd (omega (arith, mul-zero a))
-    factor a (suc b) h = omega arith
+    factor a b h = search (rules, mul-zero)
 
     positive : (a b c : ℕ) → 0 < a * b * c → 0 < b * c
     positive a b c h = factor a (b * c) (subst (λ k. 0 < k) (mul_assoc a b c) h)
@@ -204,26 +193,12 @@ pub rest-on : (elements : List Element) (drawn next : ℕ) (piece : Piece) (befo
 rest-on elements drawn next piece before after is_drawn counts queue rest = go (in_progress elements drawn) refl
   where
     go : (o : Option Draw) → in_progress elements drawn ≡ o → IsRemainder elements next after queue
-    go None is = absurd (no_more (Contains-cases [] [] (piece ∷ queue) (subst (λ qs. Contains qs (piece ∷ queue)) (rests-done elements drawn rest.drawn_set is) rest.there)))
-      where
-        no_list : [] ≡ piece ∷ queue → ⊥
-        no_list e = cc
-
-        no_more : ([] ≡ piece ∷ queue) ⊎ Contains [] (piece ∷ queue) → ⊥
-        no_more (inl e) = no_list e
-        no_more (inr there) = Contains-none (piece ∷ queue) there
+    go None is = search (rules, Contains-cases, rests-done, Contains-none)
     go (Some d) is =
         let at = stands elements drawn d is in
         let parts = begins-from (undrawn d.element.set rest.drawn_set) at.more at.later piece queue (subst (λ qs. Contains qs (piece ∷ queue)) (at.now rest.drawn_set) rest.there) in
         let free = undrawn-from d.element.set rest.drawn_set piece parts.0 in
-        let moved = moves-on (in_progress elements drawn) piece before after is_drawn d is free.0 rest.drawn_set rest.within rest.has free.1 in
-        record {
-          drawn_set = set_after d rest.drawn_set piece;
-          within = moved.within;
-          has = moved.has;
-          there = subst (λ n. Contains (rests elements n (set_after d rest.drawn_set piece)) queue) (sym (counts rest.drawn_set rest.within rest.has))
-              (subst (λ qs. Contains qs queue) (sym (at.next rest.drawn_set piece rest.within free.1)) parts.1);
-        }
+        search (rules, moves-on)
 
 pub rest-back : (elements : List Element) (drawn next : ℕ) (piece : Piece) (before after : Family) → IsDrawn (in_progress elements drawn) piece before after
     → ((set : ℕ) → set < 128 → has_set before set ≡ true → next ≡ drawn + 1)
@@ -251,7 +226,5 @@ roomy-on elements drawn next piece before after is_drawn counts room = record {
       let whole = subst (λ qs. 0 < length qs) (at.now m.drawn_set) (room.each m.drawn_set m.within m.has) in
       let some = tails-some (undrawn m.from.element.set m.drawn_set) at.more at.later piece (count_undrawn m.from.element.set m.drawn_set)
       (undrawn-to m.from.element.set m.drawn_set piece m.inside m.lacks) whole in
-      let own = subst (λ qs. 0 < length qs) (sym (at.next m.drawn_set piece m.within m.lacks)) some in
-      let here = subst (λ s. 0 < length (rests elements (drawn + 1) s)) m.next own in
-      subst (λ n. 0 < length (rests elements n set)) (sym (counts m.drawn_set m.within m.has)) here;
+      search rules;
 }

@@ -112,9 +112,7 @@ moved_up : (family : Family) (mask k : ℕ) → 2 ^ k ≤ 64 → ((set : ℕ) �
     ≡ ((bit_at set k == 1) && has_set family (set - 2 ^ k))
 moved_up family mask k small low high set within = elim (cases_lt set 64) [
   | inl below ↦
-      let fits = lined_up mask k set (low set below) in
-      has_set-low _ set below ∙ shifted family.low mask (2 ^ k) k set below fits.0 fits.1
-      ∙ ap (λ b. (bit_at set k == 1) && b) (sym (has_set-low family (set - 2 ^ k) (omega arith)))
+      search (rules, lined_up, has_set-low, shifted)
   | inr above ↦
       let fits = lined_up mask k (set - 64) (low (set - 64) (omega arith)) in
       let same = same_high k set above (high set within) in
@@ -124,10 +122,7 @@ moved_up family mask k small low high set within = elim (cases_lt set 64) [
 ]
   where
     where_set : (bit : ℕ) (a b : Bool) → (bit ≡ 1 → a ≡ b) → ((bit == 1) && a) ≡ ((bit == 1) && b)
-    where_set bit a b same = elim (cases_Bool (bit == 1)) [
-      | inl one ↦ rw one (same (eqb-true bit 1 one))
-      | inr other ↦ rw other refl
-    ]
+    where_set bit a b same = search (rules, cases_Bool, eqb-true)
 
 -- for each piece but S, the sets without S that lack it
 abbrev masks : List ℕ

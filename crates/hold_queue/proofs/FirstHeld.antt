@@ -38,9 +38,7 @@ module _ (elements : List Element) (start : Option Piece) (states held_states : 
 
   onto : (pieces : List Piece) (held : Option Piece) (queue : List Piece) → IsRemainder elements (drawn_by start played held) (family_at states held) queue
       → Permits Allowed queue held pieces → states_permit elements Allowed start held_states played pieces ≡ true
-  onto pieces (Some first) queue rest permitted =
-      states_permit-to elements Allowed start held_states played pieces
-      (record { held = Some first; queue = queue; rest = (at first).goes queue (inl rest); permitted = permitted })
+  onto pieces (Some first) queue rest permitted = search (rules, states_permit-to)
   onto pieces None [] rest permitted =
       let left = stands elements (drawn_by start played None) draw more in
       absurd (begins-none _ left.more left.later (subst (λ qs. Contains qs []) (left.now rest.drawn_set) rest.there))
@@ -54,8 +52,7 @@ module _ (elements : List Element) (start : Option Piece) (states held_states : 
   back pieces (Some first) queue rest permitted = elim ((at first).came queue rest) [
     | inl same ↦ states_permit-to elements Allowed start states played pieces (record { held = Some first; queue = queue; rest = same; permitted = permitted })
     | inr two ↦
-        states_permit-to elements Allowed start states played pieces
-        (record { held = None; queue = first ∷ queue; rest = two.1; permitted = from_hand first queue pieces permitted })
+        search (rules, states_permit-to, from_hand)
   ]
 
   same_permitted : (pieces : List Piece) → states_permit elements Allowed start states played pieces ≡ states_permit elements Allowed start held_states played pieces
@@ -75,11 +72,8 @@ pub follows-held : (elements : List Element) (start : Option Piece) (states held
     → in_progress elements (drawn_by start (length played) None) ≡ Some draw → IsNone (family_at held_states None)
     → ((piece : Piece) → IsHeldFamily elements Allowed start states (length played) piece (family_at held_states (Some piece)))
     → AreStatesAfter elements Allowed start states played → AreStatesAfter elements Allowed start held_states played
-follows-held elements start states held_states played draw more none at so_far = record {
-  permits_same = λ pieces. so_far.permits_same pieces ∙ same_permitted elements start states held_states (length played) draw more none at pieces;
-  some = some_left elements start states held_states (length played) draw more none at;
-  drawn_fits = fits elements start states held_states (length played) draw more none at;
-}
+follows-held elements start states held_states played draw more none at so_far =
+    search (rules, same_permitted, some_left, fits)
 
 -- the family of each piece that may be held, and any family for none
 abbrev pub HeldAt : List Element → Hold → Option Piece → List ℕ → ℕ → Option Piece → Family → Type 0

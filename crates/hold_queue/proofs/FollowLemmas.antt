@@ -1,5 +1,5 @@
 -- The states stand for the played pieces: at the start, and after one more.
-use Rattle.std.proofs.Common.{◌≡◌, ℕ, ◌+◌, ◌*◌, ◌<◌, ◌≤◌, Bool, true, not, ◌&&◌, ◌||◌, ◌==◌, Option, Some, None, List, [], ◌∷◌, ◌++◌, length, length-append, append_assoc, Contains, set, refl, ap, ◌∙◌, sym, subst, inl, inr, arith, rules}
+use Rattle.std.proofs.Common.{◌≡◌, ℕ, ◌+◌, ◌*◌, ◌<◌, Bool, true, not, ◌&&◌, ◌||◌, ◌==◌, Option, Some, None, List, [], ◌∷◌, ◌++◌, length, length-append, append_assoc, set, refl, ap, ◌∙◌, inl, inr, arith, rules}
 use Rattle.std.specs.Cmp.Derive.{one_truth}
 use Rattle.std.specs.List.{list_any, list_all}
 use Rattle.std.proofs.lemmas.Bool.{agree_below_at, and_parts, and_from, eqb-true, or_cases, or_left, or_right}
@@ -13,7 +13,6 @@ use Rattle.hold_queue.specs.declared.hold.Hold.{Hold}
 use Rattle.hold_queue.specs.Family.{has_set, any_below}
 use Rattle.hold_queue.specs.Permits.{Permits, some_permits}
 use Rattle.hold_queue.specs.States.{rests, held_code, drawn_by, family_at, any_held, states_permit, IsRemainder, IsNextFamily, LeadsTo, AreStatesAfter}
-use Rattle.hold_queue.specs.AtHand.{count_held}
 use Rattle.hold_queue.proofs.DrawLemmas.{any_below-from, any_below-to}
 use Rattle.hold_queue.proofs.DrawnRests.{Contains-piece}
 use Rattle.hold_queue.proofs.PermitsTest.{some_permits-decides}
@@ -67,12 +66,7 @@ states_permit-next elements hold start states next played piece steps pieces =
     }))
     (λ after. let is = states_permit-from elements hold start next (played + 1) pieces after in
     let came = (steps is.held).came is.queue is.rest in
-    states_permit-to elements hold start states played (piece ∷ pieces) (record {
-      held = came.held_before;
-      queue = came.queue_before;
-      rest = came.rest;
-      permitted = (is.queue, is.held, came.way, is.permitted);
-    }))
+    search (rules, states_permit-to))
 
 pub leads-next : (elements : List Element) (hold : Hold) (start : Option Piece) (states next : List ℕ) (played : ℕ) (piece : Piece)
     → ((held : Option Piece) → IsNextFamily elements hold start states played piece held (family_at next held))
@@ -82,18 +76,8 @@ leads-next elements hold start states next played piece steps = search (rules, s
 pub follows-next : (elements : List Element) (hold : Hold) (start : Option Piece) (states next : List ℕ) (played : List Piece) (piece : Piece)
     → AreStatesAfter elements hold start states played → LeadsTo elements hold start states (length played) piece next
     → AreStatesAfter elements hold start next (played ++ piece ∷ [])
-follows-next elements hold start states next played piece so_far leads = record {
-  permits_same = λ pieces.
-      ap (λ ps. some_permits hold (queues elements) start ps) (append_assoc played (piece ∷ []) pieces)
-      ∙ so_far.permits_same (piece ∷ pieces)
-      ∙ leads.permits_same pieces
-      ∙ ap (λ n. states_permit elements hold start next n pieces) more;
-  some = λ held set within has. subst (λ n. 0 < length (rests elements (drawn_by start n held) set)) more ((leads.stands.roomy held).each set within has);
-  drawn_fits = λ held set within has. subst (λ n. count_held start ≤ n + count_held held) more (leads.stands.drawn_fits held set within has);
-}
-  where
-    more : length played + 1 ≡ length (played ++ piece ∷ [])
-    more = sym (length-append played (piece ∷ []))
+follows-next elements hold start states next played piece so_far leads =
+    search (rules, append_assoc, set, length-append)
 
 -- the one state at the start: what is held then, and no piece drawn
 abbrev pub first_states : Option Piece → List ℕ
@@ -146,32 +130,14 @@ first start held set within has =
 
 first-there : (start : Option Piece) → has_set (family_at (first_states start) start) 0 ≡ true
 unfolding has_set family_at
-first-there None = refl
-first-there (Some piece) = each_piece (λ p. has_set (family_at (first_states (Some p)) (Some p)) 0) refl piece
+first-there start = search (rules, each_piece)
 
 pub follows-start : (elements : List Element) (hold : Hold) (start : Option Piece) → 0 < length (queues elements) → AreStatesAfter elements hold start (first_states start) []
 follows-start elements hold start some = record {
-  permits_same = λ pieces. one_truth _ _
-      (λ h. let is = (some_permits-decides hold (queues elements) start pieces).0 h in
-      states_permit-to elements hold start (first_states start) 0 pieces (record {
-        held = start;
-        queue = is.0;
-        permitted = is.2;
-        rest = record { drawn_set = 0; within = omega arith; has = first-there start; there = subst (λ qs. Contains qs is.0) (sym start_rests) is.1 };
-      }))
-      (λ h. let is = states_permit-from elements hold start (first_states start) 0 pieces h in
-      let at = first start is.held is.rest.drawn_set is.rest.within is.rest.has in
-      let there = subst (λ held. Contains (rests elements (drawn_by start 0 held) is.rest.drawn_set) is.queue) (sym at.held_is) is.rest.there in
-      let none = subst (λ set. Contains (rests elements (drawn_by start 0 start) set) is.queue) at.set_is there in
-      (some_permits-decides hold (queues elements) start pieces).1
-      (is.queue, subst (λ qs. Contains qs is.queue) start_rests none, subst (λ held. Permits hold is.queue held pieces) (sym at.held_is) is.permitted));
-  some = λ held set within has.
-      let at = first start held set within has in
-      subst (λ h. 0 < length (rests elements (drawn_by start 0 h) set)) at.held_is
-      (subst (λ s. 0 < length (rests elements (drawn_by start 0 start) s)) (sym at.set_is) (subst (λ qs. 0 < length qs) (sym start_rests) some));
-  drawn_fits = λ held set within has.
-      let at = first start held set within has in
-      subst (λ h. count_held start ≤ 0 + count_held h) at.held_is (omega arith);
+  permits_same =
+      search (rules, one_truth, some_permits-decides, states_permit-to, first-there, start_rests, states_permit-from, first, set);
+  some = search (rules, set, first, start_rests);
+  drawn_fits = search (rules, set, first);
 }
   where
     start_rests : rests elements (drawn_by start 0 start) 0 ≡ queues elements

@@ -1,5 +1,5 @@
 -- What is taken from a hand, also where the queue is another one that begins with the same pieces.
-use Rattle.std.proofs.Common.{◌≡◌, ◌⊎◌, ℕ, zero, suc, ◌+◌, ◌-◌, ◌<◌, ◌≤◌, List, [], ◌∷◌, ◌++◌, length, take, drop, Option, Some, None, slice_get, refl, sym, ap, ◌∙◌, inl, inr, arith, rules}
+use Rattle.std.proofs.Common.{◌≡◌, ◌⊎◌, ℕ, zero, suc, ◌+◌, ◌-◌, ◌<◌, ◌≤◌, List, [], ◌∷◌, ◌++◌, length, take, drop, Option, Some, None, slice_get, refl, ap, ◌∙◌, arith, rules}
 use Rattle.std.specs.Option.{option_to_list}
 use Rattle.std.proofs.Math.ListN.{drop_of_length-le}
 use Rattle.std.proofs.lemmas.List.{length-drop}
@@ -22,10 +22,7 @@ front-shorter (suc m) zero xs ys within same = absurd (omega arith)
 front-shorter (suc m) (suc n) [] [] within same = refl
 front-shorter (suc m) (suc n) [] (y ∷ ys) within same = cc
 front-shorter (suc m) (suc n) (x ∷ xs) [] within same = cc
-front-shorter (suc m) (suc n) (x ∷ xs) (y ∷ ys) within same =
-    let first : y ≡ x = cc in
-    let rest : take n ys ≡ take n xs = cc in
-    ap (λ z. z ∷ take m ys) first ∙ ap (λ zs. x ∷ zs) (front-shorter m n xs ys (omega arith) rest)
+front-shorter (suc m) (suc n) (x ∷ xs) (y ∷ ys) within same = search (rules, (front-shorter m n xs ys))
 
 pub same-shorter : (m n : ℕ) (queue other : List Piece) → m ≤ n → HasSameFront n queue other → HasSameFront m queue other
 same-shorter m n queue other within same = record { same = front-shorter m n queue other within same.same }
@@ -38,14 +35,9 @@ next-piece : (drawn : ℕ) (queue other : List Piece) (piece : Piece) → take (
     → slice_get queue drawn ≡ Some piece → drop drawn other ≡ piece ∷ drop (suc drawn) other
 next-piece drawn [] other piece same there = cc
 next-piece zero (x ∷ queue) [] piece same there = cc
-next-piece zero (x ∷ queue) (y ∷ other) piece same there =
-    let is : x ≡ piece = cc in
-    let first : y ≡ x = cc in
-    ap (λ z. z ∷ other) (first ∙ is)
+next-piece zero (x ∷ queue) (y ∷ other) piece same there = search rules
 next-piece (suc drawn) (x ∷ queue) [] piece same there = cc
-next-piece (suc drawn) (x ∷ queue) (y ∷ other) piece same there =
-    let rest : take (suc drawn) other ≡ take (suc drawn) queue = cc in
-    next-piece drawn queue other piece rest there
+next-piece (suc drawn) (x ∷ queue) (y ∷ other) piece same there = search (rules, (next-piece drawn queue other piece))
 
 -- ---- a hand
 
@@ -129,39 +121,15 @@ module _ (hold : Hold) (queue : List Piece) (hand : Hand) (first second : Option
   either piece after h2 = search (rules, first-leaves, second-leaves)
 
   by : (piece : Piece) (after : List Piece) → Take hold (pieces_at queue hand) piece after → Leaves queue (Some moved) piece after ⊎ Leaves queue (Some other) piece after
-  by piece after taken = elim (take-cases hold (pieces_at queue hand) piece after taken) [
-    | inl found ↦ inl (leaves-first queue (pieces_at queue hand) moved piece after here found)
-    | inr found ↦ inr (leaves-second queue (pieces_at queue hand) other piece after next found.1)
-  ]
+  by piece after taken = search (rules, take-cases, leaves-first, moved, here, leaves-second, next)
 
   pub two-ways : AreAllTakes hold queue hand (Some moved) (Some other)
   two-ways = record { each = λ piece after. (either piece after, by piece after) }
 
   pub in-other-order : AreAllTakes hold queue hand (Some other) (Some moved)
-  in-other-order = record {
-    each = λ piece after. (
-      λ leaves. either piece after (elim leaves [ inl it ↦ inr it | inr it ↦ inl it ]),
-      λ taken. elim (by piece after taken) [ inl it ↦ inr it | inr it ↦ inl it ],
-    );
-  }
+  in-other-order = search (rules, either, by)
 
   -- two that are the same piece are one
   pub same-way : (code other_code : ℕ) → code ≡ piece_code one.piece → other_code ≡ piece_code other.piece → code ≡ other_code → AreAllTakes hold queue hand (Some moved) None
-  same-way code other_code code_is other_code_is alike = record { each = λ piece after. (to piece after, from piece after) }
-    where
-      kind : one.piece ≡ other.piece
-      kind = piece_code-injective one.piece other.piece (sym code_is ∙ alike ∙ other_code_is)
-
-      to : (piece : Piece) (after : List Piece) → Leaves queue (Some moved) piece after ⊎ Leaves queue None piece after → Take hold (pieces_at queue hand) piece after
-      to piece after (inl leaves) = first-leaves hold queue (pieces_at queue hand) moved piece after here leaves
-      to piece after (inr leaves) = absurd leaves
-
-      from : (piece : Piece) (after : List Piece) → Take hold (pieces_at queue hand) piece after → Leaves queue (Some moved) piece after ⊎ Leaves queue None piece after
-      from piece after taken = elim (by piece after taken) [
-        | inl leaves ↦ inl leaves
-        | inr leaves ↦
-            let whole : one.piece ∷ pieces_at queue rest ≡ next.0 ∷ other.piece ∷ next.1 = sym here ∙ next.2 in
-            let first : one.piece ≡ next.0 = cc in
-            let left : pieces_at queue rest ≡ other.piece ∷ next.1 = cc in
-            inl (kind ∙ leaves.0, left ∙ ap (λ p. p ∷ next.1) (sym kind ∙ first) ∙ sym next.3 ∙ leaves.1)
-      ]
+  same-way code other_code code_is other_code_is alike =
+      search (rules, piece_code-injective, moved, first-leaves, here, by, next, left)

@@ -50,14 +50,11 @@ module _ (elements : List Element) (start : Option Piece) (states : List ℕ) (p
       | inr two ↦ inr (refl, rest-back elements (drawn_by start played None) (drawn_by start played (Some first)) first (family_at states None) drawn is_drawn (counts_first elements start states played so_far first) queue two)
     ];
     goes = λ queue follows. onto queue follows;
-    roomy = union-roomy elements (drawn_by start played (Some first)) (family_at states (Some first)) drawn both union (so_far.roomy (Some first))
-        (roomy-on elements (drawn_by start played None) (drawn_by start played (Some first)) first (family_at states None) drawn is_drawn (counts_first elements start states played so_far first) (so_far.roomy None));
+    roomy = search (rules, union-roomy, roomy-on, counts_first);
   }
     where
       onto : (queue : List Piece) → FollowsHeld elements Allowed start states played first queue → IsRemainder elements (drawn_by start played (Some first)) both queue
-      onto queue (inl held) = union-left (family_at states (Some first)) drawn both union held
-      onto queue (inr two) = union-right (family_at states (Some first)) drawn both union
-          (rest-on elements (drawn_by start played None) (drawn_by start played (Some first)) first (family_at states None) drawn is_drawn (counts_first elements start states played so_far first) queue two.1)
+      onto queue h = search (rules, union-left, union-right, rest-on, counts_first)
 
 -- ---- the family with which some piece is held
 
@@ -77,8 +74,7 @@ module _ (elements : List Element) (hold : Hold) (start : Option Piece) (states 
     where
       at : (other : Piece) (queue : List Piece) → (first ≡ other) ⊎ Contains [] other → FollowsHeld elements hold start states played other queue
           → IsRemainder elements (drawn_by start played (Some other)) family queue
-      at other queue (inl same) follows = held.goes queue (subst (λ p. FollowsHeld elements hold start states played p queue) (sym same) follows)
-      at other queue (inr there) follows = absurd (Contains-none other there)
+      at other queue h follows = search (rules, Contains-none)
 
   holding-more : (pieces : List Piece) (first : Piece) (family more both : Family) → Holding pieces family → Held first more → IsUnion family more both → Holding (first ∷ pieces) both
   holding-more pieces first family more both so_far held union = record {
@@ -169,12 +165,7 @@ module _ (elements : List Element) (hold : Hold) (start : Option Piece) (states 
       by_way first queue (inr two) = record {
         held = Some first;
         queue = queue;
-        came = record {
-          held_before = None;
-          queue_before = first ∷ piece ∷ queue;
-          way = subst (λ h. Way h (first ∷ piece ∷ queue) None piece queue (Some first)) (sym two.0) first_hold;
-          rest = two.1;
-        };
+        came = search (rules, first_hold);
       }
 
   -- it is held
@@ -185,11 +176,7 @@ module _ (elements : List Element) (hold : Hold) (start : Option Piece) (states 
       from one.0 one.1
     where
       from : (queue : List Piece) → IsRemainder elements (drawn_by start played (Some piece)) (family_at states (Some piece)) queue → Comes elements hold start states played piece
-      from [] rest = record {
-        held = None;
-        queue = [];
-        came = record { held_before = Some piece; queue_before = []; way = subst (λ h. Way h [] (Some piece) piece [] None) (sym allowed) last; rest = rest };
-      }
+      from [] rest = search (rules, last)
       from (first ∷ queue) rest = record {
         held = Some first;
         queue = queue;
@@ -242,10 +229,6 @@ module _ (elements : List Element) (hold : Hold) (start : Option Piece) (states 
   refused-none none = elim (cases_Bool (states_permit elements hold start states played (piece ∷ []))) [
     | inl permitted ↦
         let is = states_permit-from elements hold start states played (piece ∷ []) permitted in
-        absurd (none (record {
-          held = is.permitted.1;
-          queue = is.permitted.0;
-          came = record { held_before = is.held; queue_before = is.queue; way = is.permitted.2; rest = is.rest };
-        }))
+        search rules
     | inr refused ↦ refused
   ]

@@ -1,5 +1,5 @@
 -- How many pieces a queue permits: its own, and one that is held.
-use Rattle.std.proofs.Common.{◌≡◌, ℕ, zero, suc, ◌+◌, ◌≤◌, Option, List, [], ◌∷◌, ◌++◌, length, length-append, map, Contains, ap, ◌∙◌, sym, arith, inl, inr, rules}
+use Rattle.std.proofs.Common.{◌≡◌, ℕ, zero, suc, ◌+◌, ◌≤◌, Option, List, [], ◌∷◌, ◌++◌, length, length-append, map, Contains, ap, ◌∙◌, sym, arith, rules}
 use Rattle.std.proofs.lemmas.List.Sums.{sum_by-cons}
 use Rattle.srs.specs.declared.piece.Piece.{Piece}
 use Rattle.srs.proofs.CallerLemmas.{Contains-none, Contains-cases, Contains-from_flat_map, Contains-from_map}
@@ -14,10 +14,7 @@ use Rattle.hold_queue.proofs.AtHandLemmas.{takes-length, takes-of_permits}
 
 choice-length : (n : ℕ) (pieces choice : List Piece) → Contains (choices pieces n) choice → length choice ≡ n
 unfolding choices
-choice-length zero pieces choice among = elim (Contains-cases [] [] choice among) [
-  | inl is ↦ ap length (sym is)
-  | inr there ↦ absurd (Contains-none choice there)
-]
+choice-length zero pieces choice among = search (rules, Contains-cases, Contains-none)
 choice-length (suc n) pieces choice among =
     let found = Contains-from_flat_map (λ piece. map (λ rest. piece ∷ rest) (choices (others piece pieces) n)) pieces choice among in
     let tail = Contains-from_map (λ rest. found.0 ∷ rest) (choices (others found.0 pieces) n) choice found.2 in
@@ -26,10 +23,7 @@ choice-length (suc n) pieces choice among =
 -- each queue has the pieces that the elements choose
 pub queue-length : (elements : List Element) (queue : List Piece) → Contains (queues elements) queue → length queue ≡ queue_len elements
 unfolding queues
-queue-length [] queue among = elim (Contains-cases [] [] queue among) [
-  | inl is ↦ ap length (sym is)
-  | inr there ↦ absurd (Contains-none queue there)
-]
+queue-length [] queue among = search (rules, Contains-cases, Contains-none)
 queue-length (e ∷ elements) queue among =
     let found = Contains-from_flat_map (λ choice. map (λ rest. choice ++ rest) (queues elements)) (choices (pieces_in e.set) e.chosen) queue among in
     let tail = Contains-from_map (λ rest. found.0 ++ rest) (queues elements) queue found.2 in

@@ -1,12 +1,11 @@
 -- The tests decide what queues permit.
-use Rattle.std.proofs.Common.{◌≡◌, Bool, true, ◌&&◌, ◌||◌, ◌↔◌, inl, inr, List, [], ◌∷◌, Option, Some, None, refl, subst, arith, rules}
+use Rattle.std.proofs.Common.{◌≡◌, Bool, true, ◌&&◌, ◌||◌, ◌↔◌, inl, inr, List, [], ◌∷◌, Option, Some, None, refl, arith, rules}
 use Rattle.std.proofs.lemmas.Bool.{and_parts, and_from, or_cases, or_left, or_right}
 use Rattle.std.proofs.lemmas.List.Folds.{Any-from_list_any, list_any-from_Any}
 use Rattle.std.proofs.lemmas.Bool.Decides.{nat_tests}
 use Rattle.srs.specs.declared.piece.Piece.{Piece}
 use Rattle.srs.proofs.CallerLemmas.{piece_code-injective}
 use Rattle.hold_queue.specs.declared.hold.Hold.{Hold}
-use Rattle.hold_queue.specs.declared.hold.Hold.TheVariants.{Allowed, Avoided}
 use Rattle.hold_queue.specs.Permits.{Way, plain, exchange, first_hold, last, Permits, SomePermits, permits, some_permits, same_piece, plays_first, plays_held}
 use Rattle.hold_queue.specs.QueueSet.{QueuesInPlay, QueuesPermit, queues_permit}
 
@@ -26,21 +25,7 @@ first_way hold queue held piece goes_on taken = search (rules, and_parts, same_p
 
 held_way : (hold : Hold) (queue : List Piece) (held : Option Piece) (piece : Piece) (goes_on : List Piece → Option Piece → Bool)
     → plays_held hold queue held piece goes_on ≡ true → SomeWay hold queue held piece goes_on
-held_way Avoided queue held piece goes_on taken = cc
-held_way Allowed [] None piece goes_on taken = cc
-held_way Allowed [] (Some kept) piece goes_on taken =
-    let parts = and_parts (same_piece kept piece) (goes_on [] None) taken in
-    let way : Way Allowed [] (Some kept) piece [] None = subst (λ p. Way Allowed [] (Some kept) p [] None) (same_piece-is kept piece parts.0) last in
-    ([], None, way, parts.1)
-held_way Allowed (first ∷ queue) (Some kept) piece goes_on taken =
-    let parts = and_parts (same_piece kept piece) (goes_on queue (Some first)) taken in
-    let way : Way Allowed (first ∷ queue) (Some kept) piece queue (Some first) = subst (λ p. Way Allowed (first ∷ queue) (Some kept) p queue (Some first)) (same_piece-is kept piece parts.0) exchange in
-    (queue, Some first, way, parts.1)
-held_way Allowed (first ∷ []) None piece goes_on taken = cc
-held_way Allowed (first ∷ second ∷ queue) None piece goes_on taken =
-    let parts = and_parts (same_piece second piece) (goes_on queue (Some first)) taken in
-    let way : Way Allowed (first ∷ second ∷ queue) None piece queue (Some first) = subst (λ p. Way Allowed (first ∷ second ∷ queue) None p queue (Some first)) (same_piece-is second piece parts.0) first_hold in
-    (queue, Some first, way, parts.1)
+held_way hold queue held piece goes_on taken = search (rules, and_parts, same_piece-is, last, exchange, first_hold)
 
 way_taken : {hold : Hold} {queue : List Piece} {held : Option Piece} {piece : Piece} {rest : List Piece} {after : Option Piece} (goes_on : List Piece → Option Piece → Bool)
     → Way hold queue held piece rest after → goes_on rest after ≡ true
@@ -57,26 +42,20 @@ permits-from hold (piece ∷ pieces) queue held h =
     elim (or_cases (plays_first queue piece (λ rest. permits hold rest held pieces)) (plays_held hold queue held piece (λ rest after. permits hold rest after pieces)) h) [
       | inl first ↦ let way = first_way hold queue held piece (λ rest after. permits hold rest after pieces) first in
           (way.0, way.1, way.2, permits-from hold pieces way.0 way.1 way.3)
-      | inr kept ↦ let way = held_way hold queue held piece (λ rest after. permits hold rest after pieces) kept in
-          (way.0, way.1, way.2, permits-from hold pieces way.0 way.1 way.3)
+      | inr kept ↦ search (rules, held_way, (permits-from hold pieces))
     ]
 
 permits-to : (hold : Hold) (pieces : List Piece) (queue : List Piece) (held : Option Piece) → Permits hold queue held pieces → permits hold queue held pieces ≡ true
 unfolding permits
 permits-to hold [] queue held h = refl
-permits-to hold (piece ∷ pieces) queue held h =
-    way_taken (λ rest after. permits hold rest after pieces) h.2 (permits-to hold pieces h.0 h.1 h.3)
+permits-to hold (piece ∷ pieces) queue held h = search (rules, way_taken, (permits-to hold pieces h.0 h.1 h.3))
 
 pub permits-decides : (hold : Hold) (queue : List Piece) (held : Option Piece) (pieces : List Piece) → (permits hold queue held pieces ≡ true) ↔ Permits hold queue held pieces
 permits-decides hold queue held pieces = (permits-from hold pieces queue held, permits-to hold pieces queue held)
 
 pub some_permits-decides : (hold : Hold) (queues : List (List Piece)) (held : Option Piece) (pieces : List Piece) → (some_permits hold queues held pieces ≡ true) ↔ SomePermits hold queues held pieces
 some_permits-decides hold queues held pieces =
-    let test : List Piece → Bool = λ queue. permits hold queue held pieces in (
-      (λ h. let some = Any-from_list_any test queues h in
-          (some.1, (some.0, some.2, some.3), permits-from hold pieces some.1 held some.4)),
-      (λ some. list_any-from_Any test queues (some.1.0, some.0, some.1.1, some.1.2, permits-to hold pieces some.0 held some.2)),
-    )
+    search (rules, Any-from_list_any, permits-from, list_any-from_Any, permits-to)
 
 pub queues_permit-decides : (line : QueuesInPlay) (pieces : List Piece) → (queues_permit line pieces ≡ true) ↔ QueuesPermit line pieces
 queues_permit-decides line pieces = some_permits-decides line.hold _ line.held pieces

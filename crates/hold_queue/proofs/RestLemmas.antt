@@ -1,29 +1,20 @@
 -- What is left of the queues after one more piece is drawn.
-use Rattle.std.proofs.Common.{◌≡◌, ℕ, suc, ◌+◌, ◌-◌, ◌<◌, ◌≤◌, Bool, true, false, not, cond, ◌&&◌, ◌||◌, ◌==◌, Some, None, List, [], ◌∷◌, filter, refl, ap, ◌∙◌, sym, subst, inl, inr, arith, rules}
-use Rattle.std.specs.List.{list_all}
+use Rattle.std.proofs.Common.{◌≡◌, ℕ, suc, ◌+◌, ◌-◌, ◌<◌, ◌≤◌, Bool, true, false, not, cond, ◌&&◌, ◌==◌, Some, None, List, [], ◌∷◌, filter, refl, ap, ◌∙◌, sym, inl, inr, arith, rules}
 use Rattle.std.proofs.lemmas.Bool.{agree_below_at, cases_lt, lt-ltb, le-ltb, eq-eqb, ne_eqb}
 use Rattle.std.proofs.lemmas.Nat.Bits.{bit_at-zero}
 use Rattle.srs.specs.declared.piece.Piece.{Piece}
-use Rattle.srs.specs.Piece.{all_pieces, piece_code}
+use Rattle.srs.specs.Piece.{piece_code}
 use Rattle.srs.proofs.CallerLemmas.{each_piece, or_second}
 use Rattle.queue_pattern.specs.declared.element.Element.{Element}
 use Rattle.queue_pattern.specs.Grammar.{set_of}
 use Rattle.queue_pattern.specs.Queues.{is_in, pieces_in, others, queues, tails}
-use Rattle.queue_pattern.proofs.CallerLemmas.{tails-none, queues-tails, queues-none, filter_twice, same, same_true}
+use Rattle.queue_pattern.proofs.CallerLemmas.{tails-none, queues-tails, queues-none, filter_twice, same_true}
 use Rattle.hold_queue.specs.declared.family.Draw.{Draw}
 use Rattle.hold_queue.specs.States.{in_progress, undrawn, rests}
 
-abbrev adds : ℕ → Piece → Piece → Bool
-adds set piece other = is_in piece set || same (not (is_in other (set + set_of piece))) (not (is_in other set) && not (piece_code other == piece_code piece))
-
-abbrev adds_all : ℕ → Bool
-adds_all set = list_all (λ piece. list_all (adds set piece) all_pieces) all_pieces
-
 added : (set : ℕ) → set < 128 → (piece other : Piece) → is_in piece set ≡ false
     → not (is_in other (set + set_of piece)) ≡ (not (is_in other set) && not (piece_code other == piece_code piece))
-added set within piece other lacks =
-    same_true _ _ (or_second (is_in piece set) _ lacks
-    (each_piece (adds set piece) (each_piece (λ p. list_all (adds set p) all_pieces) (agree_below_at adds_all (λ _. true) 128 set refl within) piece) other))
+added set within piece other lacks = search (rules, same_true, or_second, each_piece, agree_below_at)
 
 -- one more piece is drawn
 pub undrawn-with : (set drawn_set : ℕ) (piece : Piece) → drawn_set < 128 → is_in piece drawn_set ≡ false
@@ -43,12 +34,8 @@ undrawn-none set = filter-all (λ p. not (is_in p 0)) (λ p. ap (λ n. not (n ==
 pub rests-start : (elements : List Element) → rests elements 0 0 ≡ queues elements
 unfolding rests
 rests-start [] = sym queues-none
-rests-start (e ∷ elements) = elim (cases_lt 0 e.chosen) [
-  | inl some ↦ rw (lt-ltb 0 e.chosen some) (ap (λ pieces. tails pieces (e.chosen - 0) elements) (undrawn-none e.set)
-      ∙ ap (λ n. tails (pieces_in e.set) n elements) (omega arith) ∙ sym (queues-tails e elements))
-  | inr none ↦ rw (le-ltb 0 e.chosen none) (ap (λ n. rests elements n 0) (omega arith) ∙ rests-start elements
-      ∙ sym (tails-none (pieces_in e.set) elements) ∙ ap (λ n. tails (pieces_in e.set) n elements) (omega arith) ∙ sym (queues-tails e elements))
-]
+rests-start (e ∷ elements) =
+    search (rules, cases_lt, lt-ltb, undrawn-none, queues-tails, le-ltb, tails-none, (rests-start elements))
 
 -- the drawn set after one more piece
 abbrev pub set_after : Draw → ℕ → Piece → ℕ
@@ -73,10 +60,7 @@ stands_here e elements drawn within = record {
   now = λ drawn_set. rw (lt-ltb drawn e.chosen within) (ap (λ n. tails (undrawn e.set drawn_set) n elements) (omega arith));
   next = λ drawn_set piece small lacks. elim (cases_lt (drawn + 1) e.chosen) [
     | inl more ↦
-        let other : (drawn + 1 == e.chosen) ≡ false = ne_eqb (drawn + 1) e.chosen (λ same. absurd (omega arith)) in
-        rw (other, lt-ltb (drawn + 1) e.chosen more)
-        (ap (λ pieces. tails pieces (e.chosen - (drawn + 1)) elements) (undrawn-with e.set drawn_set piece small lacks)
-        ∙ ap (λ n. tails (others piece (undrawn e.set drawn_set)) n elements) (omega arith))
+        search (rules, ne_eqb, lt-ltb, undrawn-with)
     | inr last ↦
         let same : (drawn + 1 == e.chosen) ≡ true = eq-eqb (drawn + 1) e.chosen (omega arith) in
         rw (same, le-ltb (drawn + 1) e.chosen last)
@@ -92,25 +76,11 @@ stands_later e elements drawn draw past stands = search (rules, stands, le-ltb)
 pub stands : (elements : List Element) (drawn : ℕ) (draw : Draw) → in_progress elements drawn ≡ Some draw → Stands elements drawn draw
 unfolding in_progress
 stands [] drawn draw is = cc
-stands (e ∷ elements) drawn draw is = elim (cases_lt drawn e.chosen) [
-  | inl within ↦
-      let here : Some (drawing e drawn) ≡ Some draw = sym (ap (λ b. cond b (Some (drawing e drawn)) (in_progress elements (drawn - e.chosen))) (lt-ltb drawn e.chosen within)) ∙ is in
-      let same : drawing e drawn ≡ draw = cc in
-      subst (λ d. Stands (e ∷ elements) drawn d) same (stands_here e elements drawn within)
-  | inr past ↦
-      let there : in_progress elements (drawn - e.chosen) ≡ Some draw = sym (ap (λ b. cond b (Some (drawing e drawn)) (in_progress elements (drawn - e.chosen))) (le-ltb drawn e.chosen past)) ∙ is in
-      stands_later e elements drawn draw past (stands elements (drawn - e.chosen) draw there)
-]
+stands (e ∷ elements) drawn draw is =
+    search (rules, cases_lt, drawing, lt-ltb, stands_here, le-ltb, stands_later, (stands elements))
 
 -- where all elements are drawn, nothing is left
 pub rests-done : (elements : List Element) (drawn drawn_set : ℕ) → in_progress elements drawn ≡ None → rests elements drawn drawn_set ≡ [] ∷ []
 unfolding in_progress rests
 rests-done [] drawn drawn_set is = refl
-rests-done (e ∷ elements) drawn drawn_set is = elim (cases_lt drawn e.chosen) [
-  | inl within ↦
-      let here : Some (drawing e drawn) ≡ None = sym (ap (λ b. cond b (Some (drawing e drawn)) (in_progress elements (drawn - e.chosen))) (lt-ltb drawn e.chosen within)) ∙ is in
-      cc
-  | inr past ↦
-      let there : in_progress elements (drawn - e.chosen) ≡ None = sym (ap (λ b. cond b (Some (drawing e drawn)) (in_progress elements (drawn - e.chosen))) (le-ltb drawn e.chosen past)) ∙ is in
-      rw (le-ltb drawn e.chosen past) (rests-done elements (drawn - e.chosen) drawn_set there)
-]
+rests-done (e ∷ elements) drawn drawn_set is = search (rules, cases_lt, drawing, lt-ltb, le-ltb, (rests-done elements))

@@ -1,5 +1,5 @@
 -- What holds of each queue set.
-use Rattle.std.proofs.Common.{◌≡◌, ℕ, ◌<◌, ◌+◌, length, length-append, take, List, [], ◌∷◌, ◌++◌, subst, sym, ap, arith, ◌∙◌, Bool, map, Option, add-one, set as list_set, rules}
+use Rattle.std.proofs.Common.{◌≡◌, ℕ, ◌<◌, ◌+◌, length, length-append, take, List, [], ◌∷◌, ◌++◌, sym, ap, arith, ◌∙◌, Bool, map, Option, add-one, set as list_set, rules}
 use Rattle.std.proofs.Math.Path.{fun_ext}
 use Rattle.std.proofs.Math.Seq.{take-suc-set}
 use Rattle.std.proofs.lemmas.List.{length-take}
@@ -11,7 +11,7 @@ use Rattle.queue_pattern.proofs.CallerLemmas.{pattern-short}
 use Rattle.hold_queue.specs.declared.memory.Following.{Following}
 use Rattle.hold_queue.specs.declared.set.QueueSet.{QueueSet}
 use Rattle.hold_queue.specs.QueueSet.{queues_in_play, QueuesPermit, queues_permit}
-use Rattle.hold_queue.specs.States.{AreDue, AreStatesAfter, LeadsTo, Stands, WhereverTheyStand, states_permit}
+use Rattle.hold_queue.specs.States.{AreStatesAfter, LeadsTo, Stands, WhereverTheyStand, states_permit}
 use Rattle.hold_queue.proofs.FollowLemmas.{follows-next}
 use Rattle.hold_queue.proofs.LengthLemmas.{permits-length, queue-length}
 use Rattle.hold_queue.proofs.StepLemmas.{count_held-small}
@@ -53,11 +53,7 @@ set-follows set piece next room leads = search (rules, played-more, follows-next
 
 pub step-leads : (set : QueueSet) (step : Following) → step.before ≡ set.states
     → LeadsTo (elements_of set.pattern) set.states.hold set.held set.states.words set.number step.piece step.after.words
-step-leads set step same =
-    subst (λ states. LeadsTo (elements_of set.pattern) states.hold set.held states.words set.number step.piece step.after.words) same
-    (step.leads (elements_of set.pattern) set.held set.number
-    (subst (λ states. Stands (elements_of set.pattern) set.held states.words set.number) (sym same) (set-stands set))
-    (subst (λ states. AreDue (elements_of set.pattern) set.held set.number states.due) (sym same) set.due))
+step-leads set step same = search (rules, set-stands)
 
 -- what is said of states wherever they stand holds of a set with them
 pub set-each : (set : QueueSet) (Holds : List Element → Option Piece → ℕ → Type 0) → WhereverTheyStand set.states Holds → Holds (elements_of set.pattern) set.held set.number

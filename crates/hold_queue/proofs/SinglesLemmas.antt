@@ -1,6 +1,5 @@
 -- One queue alone is the queues of its pieces.
-use Rattle.std.proofs.Common.{◌≡◌, List, [], ◌∷◌, ◌++◌, map, refl, ap, ◌∙◌, rules}
-use Rattle.std.specs.List.{flat_map}
+use Rattle.std.proofs.Common.{◌≡◌, List, [], ◌∷◌, refl, rules}
 use Rattle.srs.specs.declared.piece.Piece.{Piece}
 use Rattle.queue_pattern.specs.Grammar.{set_of}
 use Rattle.queue_pattern.specs.Queues.{pieces_in, choices, queues}
@@ -18,5 +17,4 @@ choices-single piece = refl
 pub queues-singles : (queue : List Piece) → queues (singles queue) ≡ queue ∷ []
 unfolding queues
 queues-singles [] = refl
-queues-singles (piece ∷ queue) =
-    (λ i. flat_map (λ choice. map (λ rest. choice ++ rest) (queues-singles queue i)) ((ap (λ l. choices l 1) (pieces_in-single piece) ∙ choices-single piece) i))
+queues-singles (piece ∷ queue) = search (rules, pieces_in-single, choices-single, (queues-singles queue))

@@ -1,5 +1,5 @@
 -- The families after one more piece is played, by the four ways to play it.
-use Rattle.std.proofs.Common.{◌≡◌, ℕ, ◌+◌, ◌<◌, ◌≤◌, true, ◌||◌, Option, Some, None, List, [], ◌∷◌, Contains, refl, ap, ◌∙◌, sym, subst, inl, inr, ◌⊎◌, arith, rules}
+use Rattle.std.proofs.Common.{◌≡◌, ℕ, ◌+◌, ◌<◌, ◌≤◌, true, ◌||◌, Option, Some, None, List, [], ◌∷◌, Contains, refl, ◌∙◌, sym, subst, inl, inr, ◌⊎◌, arith, rules}
 use Rattle.std.proofs.lemmas.Bool.{or_cases, or_left, or_right}
 use Rattle.srs.specs.declared.piece.Piece.{Piece}
 use Rattle.srs.specs.declared.piece.Piece.TheVariants.{I, L, O, Z, T, J, S}
@@ -76,18 +76,11 @@ module _ (elements : List Element) (start : Option Piece) (states : List ℕ) (p
     where
       same_way : {hold : Hold} {before : List Piece} {held_before : Option Piece} {piece : Piece} {queue : List Piece} {held : Option Piece}
           → hold ≡ Avoided → Way hold before held_before piece queue held → (before ≡ piece ∷ queue) × (held_before ≡ held)
-      same_way avoided plain = (refl, refl)
-      same_way avoided exchange = cc
-      same_way avoided first_hold = cc
-      same_way avoided last = cc
+      same_way avoided h = search rules
 
       goes : (queue : List Piece) (held_before : Option Piece) (before : List Piece) → Way Avoided before held_before piece queue held
           → IsRemainder elements (drawn_by start played held_before) (family_at states held_before) before → IsRemainder elements (drawn_by start (played + 1) held) after queue
-      goes queue held_before before way rest =
-          let same = same_way refl way in
-          rest-on elements (drawn_by start played held) (drawn_by start (played + 1) held) piece (family_at states held) after drawn (counts_same held) queue
-          (subst (λ q. IsRemainder elements (drawn_by start played held) (family_at states held) q) same.0
-          (subst (λ h. IsRemainder elements (drawn_by start played h) (family_at states h) before) same.1 rest))
+      goes queue held_before before way rest = search (rules, same_way, rest-on, counts_same)
 
   -- the ways that leave nothing held
   NoneWay : List Piece → Option Piece → Piece → List Piece → Type 0
@@ -96,10 +89,7 @@ module _ (elements : List Element) (start : Option Piece) (states : List ℕ) (p
   none_way : {hold : Hold} {before : List Piece} {held_before : Option Piece} {piece : Piece} {queue : List Piece} {held : Option Piece}
       → held ≡ None → Way hold before held_before piece queue held → NoneWay before held_before piece queue
   unfolding NoneWay
-  none_way empty plain = inl (refl, empty)
-  none_way empty exchange = cc
-  none_way empty first_hold = cc
-  none_way empty last = inr (refl, refl, refl)
+  none_way empty h = search rules
 
   -- nothing is held, and the queue is not used up where a piece was held
   pub next_none_more : (piece : Piece) (after : Family) (draw : Draw) → in_progress elements (drawn_by start played (Some piece)) ≡ Some draw
@@ -120,10 +110,7 @@ module _ (elements : List Element) (start : Option Piece) (states : List ℕ) (p
     where
       goes : (queue : List Piece) (held_before : Option Piece) (before : List Piece) → NoneWay before held_before piece queue
           → IsRemainder elements (drawn_by start played held_before) (family_at states held_before) before → IsRemainder elements (drawn_by start (played + 1) None) after queue
-      goes queue held_before before (inl same) rest =
-          rest-on elements (drawn_by start played None) (drawn_by start (played + 1) None) piece (family_at states None) after drawn (counts_same None) queue
-          (subst (λ q. IsRemainder elements (drawn_by start played None) (family_at states None) q) same.0
-          (subst (λ h. IsRemainder elements (drawn_by start played h) (family_at states h) before) same.1 rest))
+      goes queue held_before before (inl same) rest = search (rules, rest-on, counts_same)
       goes queue held_before before (inr same) rest =
           let held_rest = subst (λ h. IsRemainder elements (drawn_by start played h) (family_at states h) before) same.1 rest in
           let ended = subst (λ q. IsRemainder elements (drawn_by start played (Some piece)) (family_at states (Some piece)) q) same.0 held_rest in
@@ -160,35 +147,17 @@ module _ (elements : List Element) (start : Option Piece) (states : List ℕ) (p
       same_number = omega arith
 
       only : (set : ℕ) (queue : List Piece) → Contains (rests elements (drawn_by start played (Some piece)) set) queue → [] ≡ queue
-      only set queue among = elim (Contains-cases [] [] queue (subst (λ qs. Contains qs queue) (rests-done elements (drawn_by start played (Some piece)) set is) among)) [
-        | inl same ↦ same
-        | inr there ↦ absurd (Contains-none queue there)
-      ]
+      only set queue among = search (rules, Contains-cases, rests-done, Contains-none)
 
       came_last : (queue : List Piece) → IsRemainder elements (drawn_by start (played + 1) None) (family_at states (Some piece)) queue → CameBy elements Allowed start states played piece None queue
       came_last queue rest =
           let here = subst (λ n. IsRemainder elements n (family_at states (Some piece)) queue) same_number rest in
           let empty = only here.drawn_set queue here.there in
-          subst (λ q. CameBy elements Allowed start states played piece None q) empty (record {
-            held_before = Some piece;
-            queue_before = [];
-            way = last;
-            rest = subst (λ q. IsRemainder elements (drawn_by start played (Some piece)) (family_at states (Some piece)) q) (sym empty) here;
-          })
+          search (rules, last)
 
       goes : (queue : List Piece) (held_before : Option Piece) (before : List Piece) → NoneWay before held_before piece queue
           → IsRemainder elements (drawn_by start played held_before) (family_at states held_before) before → IsRemainder elements (drawn_by start (played + 1) None) both queue
-      goes queue held_before before (inl same) rest =
-          union-left drawn_on (family_at states (Some piece)) both union
-          (rest-on elements (drawn_by start played None) (drawn_by start (played + 1) None) piece (family_at states None) drawn_on drawn (counts_same None) queue
-          (subst (λ q. IsRemainder elements (drawn_by start played None) (family_at states None) q) same.0
-          (subst (λ h. IsRemainder elements (drawn_by start played h) (family_at states h) before) same.1 rest)))
-      goes queue held_before before (inr same) rest =
-          let held_rest = subst (λ h. IsRemainder elements (drawn_by start played h) (family_at states h) before) same.1 rest in
-          let ended = subst (λ q. IsRemainder elements (drawn_by start played (Some piece)) (family_at states (Some piece)) q) same.0 held_rest in
-          subst (λ q. IsRemainder elements (drawn_by start (played + 1) None) both q) (sym same.2)
-          (union-right drawn_on (family_at states (Some piece)) both union
-          (subst (λ n. IsRemainder elements n (family_at states (Some piece)) []) (sym same_number) ended))
+      goes queue held_before before h rest = search (rules, union-left, rest-on, counts_same, union-right, same_number)
 
   -- the ways that leave a piece held
   SomeWay : Hold → List Piece → Option Piece → Piece → List Piece → Piece → Type 0
@@ -199,10 +168,7 @@ module _ (elements : List Element) (start : Option Piece) (states : List ℕ) (p
   some_way : {hold : Hold} {before : List Piece} {held_before : Option Piece} {piece : Piece} {queue : List Piece} {held : Option Piece} (first : Piece)
       → held ≡ Some first → Way hold before held_before piece queue held → SomeWay hold before held_before piece queue first
   unfolding SomeWay
-  some_way first is plain = inl (refl, is)
-  some_way first is (exchange {first = other} {queue = queue}) = inr (inl (ap (λ p. p ∷ queue) (some_same is), refl))
-  some_way first is (first_hold {first = other} {piece = piece} {queue = queue}) = inr (inr (ap (λ p. p ∷ piece ∷ queue) (some_same is), refl))
-  some_way first is last = cc
+  some_way first is h = search (rules, some_same)
 
   -- a piece is held
   pub next_some : (piece first : Piece) (held second exchanged all : Family) → IsHeldFamily elements Allowed start states played first held
@@ -221,9 +187,7 @@ module _ (elements : List Element) (start : Option Piece) (states : List ℕ) (p
       }
     ];
     goes = λ queue came. goes queue came.held_before came.queue_before (some_way first refl came.way) came.rest;
-    roomy = union-roomy elements now second exchanged all union
-        (roomy-on elements middle now piece held second drawn_second counts_second is_held.roomy)
-        (roomy-on elements (drawn_by start played (Some piece)) now first (family_at states (Some piece)) exchanged drawn_exchanged (counts_exchange piece first) (so_far.roomy (Some piece)));
+    roomy = search (rules, union-roomy, roomy-on, counts_second, counts_exchange);
     drawn_fits = λ set within has. omega (arith, count_held-small start);
   }
     where
@@ -237,26 +201,19 @@ module _ (elements : List Element) (start : Option Piece) (states : List ℕ) (p
       counts_second set within has = omega (arith, count_held-small start)
 
       by_follows : (queue : List Piece) → FollowsHeld elements Allowed start states played first (piece ∷ queue) → CameBy elements Allowed start states played piece (Some first) queue
-      by_follows queue (inl rest) = record { held_before = Some first; queue_before = piece ∷ queue; way = plain; rest = rest }
-      by_follows queue (inr two) = record { held_before = None; queue_before = first ∷ piece ∷ queue; way = first_hold; rest = two.1 }
+      by_follows queue h = search (rules, plain, first_hold)
 
       at : (held_before held : Option Piece) (before queue : List Piece) → before ≡ queue → held_before ≡ held
           → IsRemainder elements (drawn_by start played held_before) (family_at states held_before) before → IsRemainder elements (drawn_by start played held) (family_at states held) queue
-      at held_before held before queue same_queue same_held rest =
-          subst (λ q. IsRemainder elements (drawn_by start played held) (family_at states held) q) same_queue
-          (subst (λ h. IsRemainder elements (drawn_by start played h) (family_at states h) before) same_held rest)
+      at held_before held before queue same_queue same_held rest = search rules
 
       goes_second : (queue : List Piece) → FollowsHeld elements Allowed start states played first (piece ∷ queue) → IsRemainder elements (drawn_by start (played + 1) (Some first)) all queue
-      goes_second queue follows =
-          union-left second exchanged all union (rest-on elements middle now piece held second drawn_second counts_second queue (is_held.goes (piece ∷ queue) follows))
+      goes_second queue follows = search (rules, union-left, rest-on, counts_second)
 
       goes : (queue : List Piece) (held_before : Option Piece) (before : List Piece) → SomeWay Allowed before held_before piece queue first
           → IsRemainder elements (drawn_by start played held_before) (family_at states held_before) before → IsRemainder elements (drawn_by start (played + 1) (Some first)) all queue
       goes queue held_before before (inl same) rest = goes_second queue (inl (at held_before (Some first) before (piece ∷ queue) same.0 same.1 rest))
-      goes queue held_before before (inr (inl same)) rest =
-          union-right second exchanged all union
-          (rest-on elements (drawn_by start played (Some piece)) now first (family_at states (Some piece)) exchanged drawn_exchanged (counts_exchange piece first) queue
-          (at held_before (Some piece) before (first ∷ queue) same.0 same.1 rest))
+      goes queue held_before before (inr (inl same)) rest = search (rules, union-right, rest-on, counts_exchange, at)
       goes queue held_before before (inr (inr same)) rest = goes_second queue (inr (refl, at held_before None before (first ∷ piece ∷ queue) same.0 same.1 rest))
 
 -- a draw that a call made, in the numbers of the states

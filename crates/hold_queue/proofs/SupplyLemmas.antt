@@ -1,5 +1,5 @@
 -- No permitted list has more of a kind than the elements with that kind and a piece that is held.
-use Rattle.std.proofs.Common.{◌≡◌, ℕ, zero, suc, ◌+◌, ◌-◌, ◌≤◌, Bool, false, not, cond, ◌==◌, Option, Some, List, [], ◌∷◌, ◌++◌, length, map, count_by, take, slice_get, Contains, refl, ap, ◌∙◌, sym, subst, arith, inl, inr, eqb-true, eq-eqb, rules}
+use Rattle.std.proofs.Common.{◌≡◌, ℕ, zero, suc, ◌+◌, ◌-◌, ◌≤◌, Bool, not, cond, ◌==◌, Option, Some, List, [], ◌∷◌, ◌++◌, length, map, count_by, take, slice_get, Contains, refl, ap, ◌∙◌, subst, arith, inl, inr, eqb-true, eq-eqb, rules}
 use Rattle.std.specs.Int.{bit_at}
 use Rattle.std.proofs.lemmas.Bool.{cases_Bool, both_ways, not-true}
 use Rattle.std.proofs.lemmas.List.{take_more}
@@ -37,19 +37,11 @@ count-more test xs i x count there so_far =
 -- a choice has a piece at most once, and only where the set has it
 choice-none : (piece : Piece) (n : ℕ) (pieces choice : List Piece) → (Contains pieces piece → ⊥) → Contains (choices pieces n) choice → count_by (is piece) choice ≡ 0
 unfolding choices others
-choice-none piece zero pieces choice lacks among = elim (Contains-cases [] [] choice among) [
-  | inl empty ↦ ap (count_by (is piece)) (sym empty)
-  | inr there ↦ absurd (Contains-none choice there)
-]
+choice-none piece zero pieces choice lacks among = search (rules, Contains-cases, Contains-none)
 choice-none piece (suc n) pieces choice lacks among =
     let found = Contains-from_flat_map (λ p. map (λ rest. p ∷ rest) (choices (others p pieces) n)) pieces choice among in
     let tail = Contains-from_map (λ rest. found.0 ∷ rest) (choices (others found.0 pieces) n) choice found.2 in
-    let rest = choice-none piece n (others found.0 pieces) tail.0 (λ there. lacks (Contains-from_filter (λ p. not (piece_code p == piece_code found.0)) pieces piece there).0) tail.1 in
-    let other : is piece found.0 ≡ false = elim (cases_Bool (is piece found.0)) [
-      | inl same ↦ absurd (lacks (subst (Contains pieces) (piece_code-injective found.0 piece (eqb-true _ _ same)) found.1))
-      | inr differs ↦ differs
-    ] in
-    ap (count_by (is piece)) (sym tail.2) ∙ omega (arith, count-cons (is piece) found.0 tail.0, ap one_if other, rest)
+    search (rules, Contains-from_filter, cases_Bool, piece_code-injective, eqb-true, count-cons, (choice-none piece n (others found.0 pieces) tail.0 (λ there. lacks (Contains-from_filter (λ p. not (piece_code p == piece_code found.0)) pieces piece there).0) tail.1))
 
 others-lacks : (piece : Piece) (pieces : List Piece) → Contains (others piece pieces) piece → ⊥
 unfolding others
@@ -59,10 +51,7 @@ others-lacks piece pieces there =
 
 choice-once : (piece : Piece) (n : ℕ) (pieces choice : List Piece) → Contains (choices pieces n) choice → count_by (is piece) choice ≤ 1
 unfolding choices
-choice-once piece zero pieces choice among = elim (Contains-cases [] [] choice among) [
-  | inl empty ↦ subst (λ c. count_by (is piece) c ≤ 1) empty (omega arith)
-  | inr there ↦ absurd (Contains-none choice there)
-]
+choice-once piece zero pieces choice among = search (rules, Contains-cases, Contains-none)
 choice-once piece (suc n) pieces choice among =
     let found = Contains-from_flat_map (λ p. map (λ rest. p ∷ rest) (choices (others p pieces) n)) pieces choice among in
     let tail = Contains-from_map (λ rest. found.0 ∷ rest) (choices (others found.0 pieces) n) choice found.2 in
@@ -92,10 +81,7 @@ choice-count piece e choice among = elim (cases_Bool (has piece e)) [
 pub queue-count : (piece : Piece) (elements : List Element) (queue : List Piece) → Contains (queues elements) queue
     → count_by (is piece) queue ≤ count_by (has piece) elements
 unfolding queues
-queue-count piece [] queue among = elim (Contains-cases [] [] queue among) [
-  | inl empty ↦ subst (λ q. count_by (is piece) q ≤ 0) empty (omega arith)
-  | inr there ↦ absurd (Contains-none queue there)
-]
+queue-count piece [] queue among = search (rules, Contains-cases, Contains-none)
 queue-count piece (e ∷ elements) queue among =
     let found = Contains-from_flat_map (λ choice. map (λ rest. choice ++ rest) (queues elements)) (choices (pieces_in e.set) e.chosen) queue among in
     let tail = Contains-from_map (λ rest. found.0 ++ rest) (queues elements) queue found.2 in

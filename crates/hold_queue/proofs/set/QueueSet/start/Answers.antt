@@ -1,9 +1,9 @@
 -- The goals of `QueueSet::start` that need lemmas.
-use Rattle.std.proofs.Common.{◌∙◌, ap, sym, subst, refl, arith, [], ◌∷◌, set as list_set}
+use Rattle.std.proofs.Common.{sym, subst, refl, arith, [], ◌∷◌, set as list_set, rules}
 use Rattle.queue_pattern.specs.Pattern.{elements_of}
 use Rattle.queue_pattern.proofs.CallerLemmas.{pattern-some}
 use Rattle.hold_queue.specs.QueueSet.{queues_in_play}
-use Rattle.hold_queue.specs.States.{AreStatesAfter, in_progress}
+use Rattle.hold_queue.specs.States.{AreStatesAfter}
 use Rattle.hold_queue.proofs.FollowLemmas.{follows-start}
 use Rattle.hold_queue.proofs.set.QueueSet.start.Goals as goal
 
@@ -14,10 +14,7 @@ invariant_of-set c = record {
   follows = subst (λ place. AreStatesAfter (elements_of c.args.pattern.now) c.args.hold c.args.held
       (list_set (0 ∷ 0 ∷ 0 ∷ 0 ∷ 0 ∷ 0 ∷ 0 ∷ 0 ∷ 0 ∷ 0 ∷ 0 ∷ 0 ∷ 0 ∷ 0 ∷ 0 ∷ 0 ∷ []) place 1) []) (sym c.place_of.ensures.value)
       (follows-start (elements_of c.args.pattern.now) c.args.hold c.args.held (pattern-some c.args.pattern.now));
-  due = record {
-    empty_handed = c.in_progress.ensures ∙ ap (in_progress (elements_of c.args.pattern.now)) (omega arith);
-    holding = c.drawn_holding.ensures;
-  };
+  due = search rules;
 }
 
 pub returns : goal.returns

@@ -1,8 +1,8 @@
 -- The goals of `QueueSet::step` that need lemmas.
-use Rattle.std.proofs.Common.{◌+◌, ◌∙◌, ap, length-set, arith, subst, sym, take, rules, set as list_set}
+use Rattle.std.proofs.Common.{◌∙◌, ap, length-set, arith, rules, set as list_set}
 use Rattle.queue_pattern.specs.Pattern.{elements_of}
 use Rattle.hold_queue.specs.QueueSet.{queues_in_play}
-use Rattle.hold_queue.specs.States.{AreStatesAfter, in_progress}
+use Rattle.hold_queue.specs.States.{in_progress}
 use Rattle.hold_queue.proofs.SetFacts.{set-room, set-follows, set-coming, step-leads, played-more}
 use Rattle.hold_queue.proofs.set.QueueSet.step.Goals as goal
 
@@ -18,9 +18,7 @@ invariant_of-self c =
     record {
       room = length-set set.played set.number step.piece ∙ set.room;
       within = omega (arith, room);
-      follows = subst (λ hold. AreStatesAfter elements hold set.held step.after.words (take (set.number + 1) (list_set set.played set.number step.piece)))
-          (sym (step.same_hold ∙ ap (λ states. states.hold) c.requires.before))
-          (set-follows set step.piece step.after.words room (step-leads set step c.requires.before));
+      follows = search (rules, list_set, set-follows, step-leads);
       due = record {
         empty_handed = step.drawn ∙ ap (λ states. states.due.holding) c.requires.before ∙ set.due.holding step.piece ∙ ap (in_progress elements) (omega arith);
         holding = c.requires.due;

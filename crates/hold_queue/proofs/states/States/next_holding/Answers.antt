@@ -1,15 +1,13 @@
 -- The goals of `States::next_holding` that need lemmas.
-use Rattle.std.proofs.Common.{sym, subst, Some}
+use Rattle.std.proofs.Common.{sym, subst, Some, rules}
 use Rattle.hold_queue.specs.States.{IsNextFamily, IsHeldFamily}
 use Rattle.hold_queue.proofs.StepLemmas.{next_avoided, next_some, drawn_at, drawn_by_draw}
 use Rattle.hold_queue.proofs.states.States.next_holding.Goals as goal
 
 pub returns-in-Avoided : goal.returns-in-Avoided
 returns-in-Avoided c = λ elements start played stands due.
-    let set = c.args.self.now in
     let drawn = drawn_at c.draw.ensures (due.holding c.args.first) c.family_of.ensures in
-    subst (λ hold. IsNextFamily elements hold start set.words played c.args.piece (Some c.args.first) c.draw.result) (sym c.in-Avoided.is)
-    (next_avoided elements start set.words played stands c.args.piece (Some c.args.first) c.draw.result drawn)
+    search (rules, next_avoided)
 
 pub returns : goal.returns
 returns c = λ elements start played stands due.

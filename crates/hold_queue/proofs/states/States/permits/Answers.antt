@@ -9,11 +9,7 @@ pub returns-then-not-is_empty : goal.returns-then-not-is_empty
 returns-then-not-is_empty c = search (rules, permitted-comes, comes-plain, drawn_at)
 
 pub returns-then-may_exchange : goal.returns-then-may_exchange
-returns-then-may_exchange c = λ elements start played stands due.
-    let set = c.args.self.now in
-    sym (permitted-comes elements set.hold start set.words played c.args.piece
-    (comes-held elements set.hold start set.words played stands c.args.piece
-    (c.may_exchange.ensures.allowed c.if-may_exchange.true) (c.may_exchange.ensures.some c.if-may_exchange.true)))
+returns-then-may_exchange c = search (rules, permitted-comes, comes-held)
 
 pub returns : goal.returns
 returns c = go c.is_empty-2.result refl
