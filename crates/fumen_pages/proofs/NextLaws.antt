@@ -143,10 +143,7 @@ none_kept : (row : List ℕ) (rows : List (List ℕ)) → is_full_page_row row �
 none_kept row rows full = filter-append (λ r. not (is_full_page_row r)) rows (row ∷ []) ∙ (ap (λ (b : Bool). filter (λ r. not (is_full_page_row r)) rows ++ cond (not b) (row ∷ []) []) full ∙ append-nil (filter (λ r. not (is_full_page_row r)) rows))
 
 pub kept_least : (rows : List (List ℕ)) → length (filter (λ r. not (is_full_page_row r)) rows) ≤ length rows
-kept_least rows = let both = length-filter_both (λ r. not (is_full_page_row r)) is_full_page_row (λ r. sym (not_not (is_full_page_row r))) rows in omega arith
-  where
-    not_not : (b : Bool) → not (not b) ≡ b
-    not_not b = search rules
+kept_least rows = search (rules, (length-filter_both (λ r. not (is_full_page_row r)) is_full_page_row))
 
 pub without_full_kept : (row : List ℕ) (rows : List (List ℕ)) → is_full_page_row row ≡ false → without_full (rows ++ row ∷ []) ≡ without_full rows ++ row ∷ []
 unfolding without_full

@@ -1,10 +1,10 @@
 -- What a page leaves are cells of the dialect again, and its rows come one after the other.
-use Rattle.std.proofs.Common.{◌≡◌, ℕ, zero, suc, ◌+◌, ◌*◌, ◌≤◌, Bool, true, false, List, [], ◌∷◌, ◌++◌, length, set, take, drop, All, Option, Some, None, refl, sym, ap, subst, ◌∙◌, arith, rules}
+use Rattle.std.proofs.Common.{◌≡◌, ℕ, zero, suc, ◌*◌, ◌≤◌, Bool, true, false, List, [], ◌∷◌, ◌++◌, length, set, take, drop, All, Option, Some, None, refl, sym, ap, subst, ◌∙◌, arith, rules}
 use Rattle.std.specs.Prelude.{fold, replicate, reverse}
 use Rattle.std.specs.List.{list_all}
 use Rattle.std.specs.Option.{ForSome}
 use Rattle.std.proofs.lemmas.Bool.{and_parts}
-use Rattle.std.proofs.lemmas.List.{take-append-drop, take_at, drop-drop, length-set, take-set-le, length-append, length-drop, length-take-le, length-map, length-reverse, length-replicate, get_or-reverse}
+use Rattle.std.proofs.lemmas.List.{take-append-drop, drop-drop, length-set, take-set-le, length-append, length-drop, length-take-le, length-map, length-reverse, length-replicate, get_or-reverse}
 use Rattle.std.proofs.lemmas.List.Elements.{All-nil, All-cons, All-head, All-tail, All-replicate, All-get_or, All-from_get_or, All-append, All-set, All-weaker, All-take, All-drop, All-map, All-filter}
 use Rattle.fumen_digits.specs.declared.dialect.Dialect.{Dialect}
 use Rattle.fumen_digits.specs.declared.dialect.Dialect.TheVariants.{V115}
@@ -101,22 +101,16 @@ flat-good (row ∷ rows) good =
 
 pub cells_of_rows-sound : (dialect : Dialect) (rows : Rows) → AreRowsOf dialect rows → AreCells dialect (cells_of_rows dialect rows)
 unfolding cells_of_rows
-cells_of_rows-sound dialect rows good =
-    let m = missing_count dialect in
-    let empties : length (replicate m 0) ≡ m = length-replicate m 0 in
-    let field = flat-good rows.field good.field in
-    let all = length-append (replicate m 0) (flat rows.field ++ rows.garbage) in
-    let behind = length-append (flat rows.field) rows.garbage in
-    let most = field.0 in
-    let ten = good.last.0 in
-    let same = good.count in
-    let end = rows_end dialect in
-    let total : length (replicate m 0) + length (flat rows.field ++ rows.garbage) ≡ 240 = omega arith in
-    record {
-      size = all ∙ total;
-      colours = All-append IsColour (replicate m 0) (flat rows.field ++ rows.garbage) (All-replicate IsColour m 0 (omega arith)) (All-append IsColour (flat rows.field) rows.garbage field.1 good.last.1);
-      missing = take_at (replicate m 0) (flat rows.field ++ rows.garbage) m empties;
-    }
+cells_of_rows-sound dialect rows good = search (
+  rules,
+  length-replicate,
+  (flat-good rows.field good.field),
+  (length-append (flat rows.field) rows.garbage),
+  (rows_end dialect),
+  (All-append IsColour),
+  (All-append IsColour (flat rows.field) rows.garbage),
+  (All-replicate IsColour),
+)
 
 -- cells are those of their rows
 pub cells_of_rows-rows_of : (dialect : Dialect) (cells : List ℕ) → length cells ≡ 240 → take (missing_count dialect) cells ≡ replicate (missing_count dialect) 0 → cells ≡ cells_of_rows dialect (rows_of dialect cells)

@@ -1,5 +1,5 @@
 -- A page whose tail is read stands there, and what stands there is read; a fault is the first one there.
-use Rattle.std.proofs.Common.{◌≡◌, ℕ, ◌+◌, ◌≤◌, Bool, true, false, List, ◌++◌, length, Option, Some, None, Result, Ok, Err, refl, sym, ap, subst, ◌∙◌, inl, inr, arith, rules}
+use Rattle.std.proofs.Common.{◌≡◌, ℕ, ◌+◌, ◌≤◌, Bool, true, false, List, length, Option, Some, None, Result, Ok, Err, refl, sym, ap, subst, ◌∙◌, inl, inr, rules}
 use Rattle.std.specs.Prelude.{IsTrue, is_some}
 use Rattle.std.specs.Option.{ForSome}
 use Rattle.fumen_digits.specs.declared.dialect.Dialect.{Dialect}
@@ -105,17 +105,7 @@ same_action cells action comment e = search rules
 
 tail_stands : (dialect : Dialect) (cells ds : List ℕ) (place : ℕ) (action : Action) (comment : Option (List ℕ)) (end : ℕ) → ActionStands dialect ds place action → PartStands action.comment ds (place + 3) comment end → TailStands dialect ds place (page_of cells action comment) end
 tail_stands dialect cells ds place action comment end a p =
-    record {
-      text = digits 3 a.number ++ p.text;
-      stands = Stands-then ds place (digits 3 a.number) (place + 3) p.text end a.stands.stands p.stands;
-      spells = record {
-        number = a.number;
-        says = subst (λ (x : Action). SaysAction dialect a.number x) (sym (same_action cells action comment p.flagged)) a.says;
-        part = p.text;
-        comment = p.spells;
-        spelled = refl;
-      };
-    }
+    search (rules, (Stands-then ds place (digits 3 a.number) (place + 3) p.text end a.stands.stands p.stands), (same_action cells action comment p.flagged))
 
 -- what is read has the cells, stands there, and lies inside
 pub record PageStands (dialect : Dialect) (cells ds : List ℕ) (place : ℕ) (page : Page) (end : ℕ) : Type 0 where
@@ -135,22 +125,10 @@ page_from_read dialect cells number ds place page end le e =
 
 number_stands : (dialect : Dialect) (ds : List ℕ) (place : ℕ) (page : Page) (end : ℕ) → TailStands dialect ds place page end → ActionStands dialect ds place (action_of page)
 number_stands dialect ds place page end t =
-    let tail = t.spells in
-    let whole = subst (λ (x : List ℕ). Stands ds place x end) tail.spelled t.stands in
-    let parts = Stands-parts ds place (digits 3 tail.number) tail.part end whole in
-    let below = says_below dialect tail.number (action_of page) tail.says in
-    record {
-      number = tail.number;
-      stands = record { below = omega arith; stands = subst (λ (k : ℕ). Stands ds place (digits 3 tail.number) (place + k)) (length-digits 3 tail.number) parts.0 };
-      says = tail.says;
-    }
+    search (rules, (Stands-parts ds place), (says_below dialect), (length-digits 3))
 
 part_stands : (dialect : Dialect) (ds : List ℕ) (place : ℕ) (page : Page) (end : ℕ) (t : TailStands dialect ds place page end) → Stands ds (place + 3) t.spells.part end
-part_stands dialect ds place page end t =
-    let tail = t.spells in
-    let whole = subst (λ (x : List ℕ). Stands ds place x end) tail.spelled t.stands in
-    let parts = Stands-parts ds place (digits 3 tail.number) tail.part end whole in
-    subst (λ (k : ℕ). Stands ds (place + k) tail.part end) (length-digits 3 tail.number) parts.1
+part_stands dialect ds place page end t = search (rules, (Stands-parts ds place), (length-digits 3))
 
 pub read_from_page : (dialect : Dialect) (cells : List ℕ) (number : ℕ) (ds : List ℕ) (place : ℕ) (page : Page) (end : ℕ) → page.cells ≡ cells → TailStands dialect ds place page end → page_at dialect cells number ds place ≡ Ok (page, end)
 unfolding page_at

@@ -1,5 +1,5 @@
 -- Reading a record run by run, and moving the cells of a run, as loops do.
-use Rattle.std.proofs.Common.{◌≡◌, ℕ, zero, suc, ◌+◌, ◌-◌, ◌<◌, ◌≤◌, Bool, true, leb, List, [], ◌++◌, length, get_or, set, take, drop, All, Result, Ok, Err, refl, sym, ap, subst, ◌∙◌, append_assoc, arith, rules}
+use Rattle.std.proofs.Common.{◌≡◌, ℕ, zero, suc, ◌+◌, ◌-◌, ◌<◌, ◌≤◌, Bool, true, List, ◌++◌, length, get_or, set, take, drop, All, Result, Ok, Err, refl, sym, ap, subst, ◌∙◌, append_assoc, arith, rules}
 use Rattle.std.specs.Prelude.{replicate, nat_eq}
 use Rattle.std.specs.List.{list_all, starts_with}
 use Rattle.std.proofs.lemmas.Bool.{and_parts, leb-true}
@@ -15,7 +15,6 @@ use Rattle.fumen_digits.specs.declared.fault.FumenFault.{FumenFault}
 use Rattle.fumen_digits.specs.Reading.{◌>>=◌}
 use Rattle.fumen_digits.proofs.CallerLemmas.{ok_bind, err_bind}
 use Rattle.fumen_comment.proofs.CallerLemmas.{with_front, from_nothing, regroup}
-use Rattle.fumen_pages.specs.declared.record.CellsRead.{CellsRead}
 use Rattle.fumen_pages.specs.Cells.{IsColour, missing_count, shown, AreCells}
 use Rattle.fumen_pages.specs.Record.{moved_by, stays_colour, unchanged}
 use Rattle.fumen_pages.specs.Reading.{run_at, runs_at, record_at}
@@ -35,12 +34,7 @@ moved_next shift old i cells lt is = search (rules, length-map, length-take-le, 
 -- with its difference it is a colour
 pub moved_fits : (shift : ℕ) (old : List ℕ) (i : ℕ) (cells : List ℕ) → i < length old → list_all (stays_colour shift) old ≡ true → AreMoved shift old i cells → (8 ≤ get_or cells i 0 + shift) × (get_or cells i 0 + shift ≤ 16)
 moved_fits shift old i cells lt all is =
-    let cell = get_or old i 0 in
-    let parts = and_parts (leb 8 (cell + shift)) (leb (cell + shift) 16) (list_all_each (stays_colour shift) old i 0 all lt) in
-    let low = leb-true 8 (cell + shift) parts.0 in
-    let high = leb-true (cell + shift) 16 parts.1 in
-    let same = moved_next shift old i cells lt is in
-    (omega arith, omega arith)
+    search (rules, and_parts, (list_all_each (stays_colour shift) old i 0 all lt), (leb-true 8), (moved_next shift old i cells lt is))
 
 pub moved_more : (shift : ℕ) (old : List ℕ) (i : ℕ) (cells : List ℕ) → i < length old → length cells ≡ length old → AreMoved shift old i cells → AreMoved shift old (i + 1) (set cells i (get_or cells i 0 + shift - 8))
 moved_more shift old i cells lt len is =
@@ -63,24 +57,7 @@ pub record AreReadSoFar (dialect : Dialect) (ds : List ℕ) (place : ℕ) (old c
 
 pub read_starts : (dialect : Dialect) (ds : List ℕ) (place : ℕ) (old : List ℕ) (start : ℕ) → AreCells dialect old → place ≤ length ds → start ≡ missing_count dialect → AreReadSoFar dialect ds place old old start place
 read_starts dialect ds place old start sound le at =
-    let m = missing_count dialect in
-    let n = page_cell_count dialect in
-    let len = shown-length dialect old sound in
-    let most = cell_count-most dialect in
-    let size : length (take m old) ≡ m = length-take-le m old (omega (arith, sound.size)) in
-    let none : drop m (take start old) ≡ [] = ap (λ (k : ℕ). drop m (take k old)) at ∙ drop_all m (take m old) (omega arith) in
-    let same : drop start old ≡ shown dialect old = ap (λ (k : ℕ). drop k old) at in
-    record {
-      most = n;
-      size = sound.size;
-      from = omega arith;
-      room = omega (arith, ap length same);
-      upto = omega arith;
-      within = le;
-      colours = All-drop IsColour start old sound.colours;
-      missing = sound.missing;
-      completes = ap (λ (xs : List ℕ). with_front xs (runs_at n ds place n (drop start old))) none ∙ (from_nothing (runs_at n ds place n (drop start old)) ∙ ap (λ (xs : List ℕ). runs_at n ds place n xs) same);
-    }
+    search (rules, (shown-length dialect old sound), (cell_count-most dialect), length-take-le, drop_all, (All-drop IsColour start old sound.colours), from_nothing)
 
 -- one more run, if there is room for it
 record IsMore (most : ℕ) (left : List ℕ) : Type 0 where
@@ -144,20 +121,11 @@ read_more dialect ds place old cells start behind count shift moved k lt behind_
 pub same_front : (dialect : Dialect) (ds : List ℕ) (place : ℕ) (text : List ℕ) → text ≡ unchanged dialect → starts_with nat_eq (take (length ds - place) (drop place ds)) text ≡ starts_with nat_eq (drop place ds) (unchanged dialect)
 same_front dialect ds place text is = search (rules, take_rest)
 
-abbrev pub read_of : Dialect → List ℕ → ℕ → List ℕ × ℕ → Result CellsRead FumenFault
-read_of dialect ds place new =
-    Ok (record { cells = replicate (missing_count dialect) 0 ++ new.0; place = new.1; unchanged = starts_with nat_eq (drop place ds) (unchanged dialect) })
-
 pub read_stops : (dialect : Dialect) (ds : List ℕ) (place : ℕ) (old cells : List ℕ) (start behind : ℕ) (f : FumenFault) → start < 240 → run_at (page_cell_count dialect) ds behind (rest_cells cells start) ≡ Err f → AreReadSoFar dialect ds place old cells start behind
     → record_at dialect ds place old ≡ Err f
 unfolding record_at with_front
 read_stops dialect ds place old cells start behind f lt failed_run s =
-    let n = page_cell_count dialect in
-    let left = drop start cells in
-    let more = one_more s.most start cells s.size lt s.room in
-    let read : run_at n ds behind left ≡ Err f = ap (λ (xs : List ℕ). run_at n ds behind xs) (sym (rest_cells-all cells start s.size)) ∙ failed_run in
-    let failed : runs_at n ds behind s.most left ≡ Err f = ap (λ (j : ℕ). runs_at n ds behind j left) more.is ∙ (runs_more n ds behind more.less left more.some ∙ err_bind (run_at n ds behind left) (λ run. rest_of n ds behind more.less left run) f read) in
-    err_bind (runs_at n ds place n (shown dialect old)) (λ new. read_of dialect ds place new) f (sym s.completes ∙ ap (λ (r : Result (List ℕ × ℕ) FumenFault). with_front (drop (missing_count dialect) (take start cells)) r) failed)
+    search (rules, (one_more s.most start cells s.size lt s.room), (rest_cells-all cells start s.size), runs_more, err_bind)
 
 pub read_ends : (dialect : Dialect) (ds : List ℕ) (place : ℕ) (old cells : List ℕ) (start behind : ℕ) (same : Bool) → 240 ≤ start → same ≡ starts_with nat_eq (drop place ds) (unchanged dialect) → AreReadSoFar dialect ds place old cells start behind
     → record_at dialect ds place old ≡ Ok (record { cells = cells; place = behind; unchanged = same })

@@ -102,18 +102,15 @@ abbrev front_decides : (xs needle : List ℕ) → (starts_with nat_eq xs needle 
 front_decides xs needle = pointwise_decides (λ a b. (eqb-true a b, eq-eqb a b)) needle (take (length needle) xs)
 
 stands_from_front : (dialect : Dialect) (ds : List ℕ) (place : ℕ) → place ≤ length ds → is_unchanged dialect ds place ≡ true → Stands ds place (unchanged dialect) (place + 2)
-stands_from_front dialect ds place le e =
-    let text = unchanged dialect in
-    let two = unchanged-length dialect in
-    let front : text ≡ take 2 (drop place ds) = (front_decides (drop place ds) text).0 e ∙ ap (λ (k : ℕ). take k (drop place ds)) two in
-    let room : length text ≡ length (take 2 (drop place ds)) = ap length front in
-    let least = length-take 2 (drop place ds) in
-    let left = length-drop place ds in
-    record {
-      here = sym (take-append-drop 2 (drop place ds)) ∙ (ap (λ (xs : List ℕ). xs ++ drop 2 (drop place ds)) (sym front) ∙ ap (λ (xs : List ℕ). text ++ xs) (drop-drop 2 place ds));
-      upto = omega arith;
-      within = omega arith;
-    }
+stands_from_front dialect ds place le e = search (
+  rules,
+  (unchanged-length dialect),
+  (front_decides (drop place ds)),
+  (length-take 2 (drop place ds)),
+  (length-drop place ds),
+  (take-append-drop 2 (drop place ds)),
+  (drop-drop 2 place ds),
+)
 
 front_from_stands : (dialect : Dialect) (ds : List ℕ) (place end : ℕ) → Stands ds place (unchanged dialect) end → is_unchanged dialect ds place ≡ true
 front_from_stands dialect ds place end stands = (front_decides (drop place ds) (unchanged dialect)).1 (Stands-is ds place (unchanged dialect) end stands)
@@ -229,7 +226,4 @@ record_fault_from_read dialect ds place old f le sound e =
 pub read_from_record_fault : (dialect : Dialect) (ds : List ℕ) (place : ℕ) (old : List ℕ) (f : FumenFault) → AreCells dialect old → IsRecordFault dialect ds place old f → record_at dialect ds place old ≡ Err f
 unfolding record_at made
 read_from_record_fault dialect ds place old f sound bad =
-    let n = page_cell_count dialect in
-    let most = cell_count-most dialect in
-    let len = shown-length dialect old sound in
-    err_bind (runs_at n ds place n (shown dialect old)) (λ x. Ok (made dialect ds place x)) f (read_from_runs_fault n ds place n (shown dialect old) f most.1 (omega arith) bad)
+    search (rules, (cell_count-most dialect), (shown-length dialect old sound), err_bind, (made dialect ds place), read_from_runs_fault)

@@ -38,9 +38,7 @@ AreRows-rows_in (suc count) cells room =
 pub rows_in_more : (count : ℕ) (cells : List ℕ) → rows_in (suc count) cells ≡ rows_in count cells ++ take 10 (drop (10 * count) cells) ∷ []
 unfolding rows_in
 rows_in_more zero cells = refl
-rows_in_more (suc count) cells =
-    let there : 10 + 10 * count ≡ 10 * suc count = omega arith in
-    ap (λ (rows : List (List ℕ)). take 10 cells ∷ rows) (rows_in_more count (drop 10 cells) ∙ ap (λ (xs : List ℕ). rows_in count (drop 10 cells) ++ take 10 xs ∷ []) (drop-drop (10 * count) 10 cells ∙ ap (λ (n : ℕ). drop n cells) there))
+rows_in_more (suc count) cells = search (rules, (drop-drop (10 * count) 10 cells), (rows_in_more count (drop 10 cells)))
 
 -- rows that stand in one list are its first rows
 pub rows_in-flat : (count : ℕ) (rows : List (List ℕ)) (rest : List ℕ) → AreRows rows → length rows ≡ count → rows_in count (flat rows ++ rest) ≡ rows
@@ -66,9 +64,7 @@ flat-rows_in (suc count) cells =
 -- the first rows are those of the cells in them
 pub rows_in-front : (count : ℕ) (cells rest : List ℕ) → 10 * count ≤ length cells → rows_in count (cells ++ rest) ≡ rows_in count cells
 rows_in-front count cells rest room =
-    let rows = rows_in count cells in
-    let whole : flat rows ++ (drop (10 * count) cells ++ rest) ≡ cells ++ rest = sym (append_assoc (flat rows) (drop (10 * count) cells) rest) ∙ ap (λ (xs : List ℕ). xs ++ rest) (flat-rows_in count cells) in
-    ap (λ (xs : List ℕ). rows_in count xs) (sym whole) ∙ rows_in-flat count rows (drop (10 * count) cells ++ rest) (AreRows-rows_in count cells room) (length-rows_in count cells)
+    search (rules, append_assoc, (flat-rows_in count cells), (rows_in-flat count), (AreRows-rows_in count cells room), (length-rows_in count cells))
 
 -- ---- rows that are rewritten one by one
 

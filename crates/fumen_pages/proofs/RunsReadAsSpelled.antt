@@ -77,16 +77,14 @@ read_from_run n ds place left count shift r = read_run n ds place left count shi
 
 run_fault_from_read : (n : ℕ) (ds : List ℕ) (place : ℕ) (left : List ℕ) (f : FumenFault) → 0 < n → place ≤ length ds → run_at n ds place left ≡ Err f → IsRunFault n ds place left f
 unfolding run_at
-run_fault_from_read n ds place left f some le e =
-    elim (bind_err (number_at ds place 2) (λ number. checked_number n place left number) f e) [
-      | inl bad ↦ inl (number_fault_from_read ds place 2 f le bad)
-      | inr x ↦
-          let stands = run_stands n ds place x.0 some (stands_from_read ds place place 2 x.0 le x.1) in
-          elim (checked_err place left (x.0 % n + 1) (x.0 / n) f x.2) [
-            | inl long ↦ inr (inl (record { count = x.0 % n + 1; shift = x.0 / n; stands = stands; long = long.0 }, long.1))
-            | inr bad ↦ inr (inr (record { count = x.0 % n + 1; shift = x.0 / n; stands = stands; fits = bad.0; bad = bad.1 }, bad.2))
-          ]
-    ]
+run_fault_from_read n ds place left f some le e = search (
+  rules,
+  (bind_err (number_at ds place 2) (λ number. checked_number n place left number) f e),
+  (number_fault_from_read ds place 2 f le),
+  (run_stands n ds place),
+  (stands_from_read ds place place 2),
+  (checked_err place left),
+)
 
 read_from_run_fault : (n : ℕ) (ds : List ℕ) (place : ℕ) (left : List ℕ) (f : FumenFault) → IsRunFault n ds place left f → run_at n ds place left ≡ Err f
 unfolding run_at

@@ -29,10 +29,7 @@ split letters n count is = rw (is) refl
 pub rows_left-more : (letters : List ℕ) (index : ℕ) → index < 23 → rows_left letters index ≡ row_at letters index ∷ rows_left letters (index + 1)
 unfolding rows_left
 rows_left-more letters index within =
-    let rest : drop 10 (drop (10 * index) letters) ≡ drop (10 * (index + 1)) letters = drop-drop 10 (10 * index) letters ∙ more (10 * index + 10) (10 * (index + 1)) (omega arith) in
-    split (drop (10 * index) letters) (23 - index) (23 - (index + 1)) (omega arith) ∙ ap (λ l. row_at letters index ∷ rows_in (23 - (index + 1)) l) rest where
-      more : (m n : ℕ) → m ≡ n → drop m letters ≡ drop n letters
-      more m n is = ap (λ k. drop k letters) is
+    search (rules, (drop-drop 10 (10 * index) letters), (split (drop (10 * index) letters) (23 - index) (23 - (index + 1))))
 
 -- the rows that are left after a number of them are dropped
 pub rows_left-drop : (letters : List ℕ) (index : ℕ) → index ≤ 23 → drop index (rows_in 23 letters) ≡ rows_left letters index

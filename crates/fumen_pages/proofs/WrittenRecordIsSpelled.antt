@@ -140,9 +140,7 @@ pub longest_first : (cell value : ℕ) (old new : List ℕ) → length old ≡ l
 longest_first cell value [] (next ∷ new) same = absurd (omega arith)
 longest_first cell value (next ∷ old) [] same = absurd (omega arith)
 longest_first cell value [] [] same =
-    let shift = colour_difference cell value in
-    let one : same_count shift (cell ∷ []) (value ∷ []) ≡ 1 = same_count_cons shift cell value [] [] true (eq-eqb shift shift refl) ∙ ap suc (same_count_none shift []) in
-    longest_cons cell value [] [] ∙ (alone cell value shift ∙ ap (λ (k : ℕ). from_first k shift (cell ∷ []) (value ∷ [])) (sym one))
+    search (rules, same_count_cons, eq-eqb, same_count_none, (longest_cons cell value [] []), (alone cell value))
 longest_first cell value (next ∷ old) (new_next ∷ new) same =
     search (rules, same_count_cons, eq-eqb, longest_cons, eqb-true, extended_same, extended_other, single, (longest_first next new_next old new))
 
@@ -153,14 +151,7 @@ written_runs dialect old new sound made = search (rules, shown-length, are_longe
 
 pub written_cuts : (dialect : Dialect) (old new : List ℕ) → AreCells dialect old → AreCells dialect new → Cuts dialect old new (written_record dialect old new)
 unfolding written_record
-written_cuts dialect old new sound made =
-    let runs = written_runs dialect old new sound made in
-    record {
-      old_cells = sound;
-      new_cells = made;
-      runs = longest (shown dialect old) (shown dialect new);
-      cut = record { each = runs.each; from = sym runs.old_is; to = sym runs.new_is; spelled = refl };
-    }
+written_cuts dialect old new sound made = search (rules, (written_runs dialect old new sound made))
 
 pub written_apart : (dialect : Dialect) (old new : List ℕ) → AreCells dialect old → AreCells dialect new → AreApart (longest (shown dialect old) (shown dialect new))
 written_apart dialect old new sound made = (written_runs dialect old new sound made).apart
@@ -179,13 +170,7 @@ read_written : (dialect : Dialect) (ds : List ℕ) (place end : ℕ) (old new : 
     → runs_at (page_cell_count dialect) ds place (page_cell_count dialect) (shown dialect old) ≡ Ok (shown dialect new, end)
 unfolding written_record
 read_written dialect ds place end old new sound made stands =
-    let n = page_cell_count dialect in
-    let runs = written_runs dialect old new sound made in
-    let all = longest (shown dialect old) (shown dialect new) in
-    let most = cell_count-most dialect in
-    let len = shown-length dialect old sound in
-    let room : length (old_cells all) ≤ n = omega (arith, ap length runs.old_is) in
-    ap (λ (xs : List ℕ). runs_at n ds place n xs) (sym runs.old_is) ∙ (read_from_runs n ds all place end n most.1 runs.each room stands ∙ ap (λ (xs : List ℕ). Ok (xs, end)) runs.new_is)
+    search (rules, (written_runs dialect old new sound made), (cell_count-most dialect), (shown-length dialect old sound), read_from_runs)
 
 pub written_read : (dialect : Dialect) (ds : List ℕ) (place end : ℕ) (old new : List ℕ) → AreCells dialect old → AreCells dialect new → Stands ds place (written_record dialect old new) end
     → record_at dialect ds place old ≡ Ok (record { cells = new; place = end; unchanged = is_unchanged dialect ds place })
