@@ -1,1 +1,5 @@
 -- The lemmas of this crate.
+mod WordBits
+mod BetweenRows
+mod BelowSteps
+mod FloorSteps

@@ -1,4 +1,6 @@
 // Which hands some order of a tiling's pieces serves.
 #![tactic(auto)]
 
-mod fits;
+mod laid;
+mod left;
+mod words;
