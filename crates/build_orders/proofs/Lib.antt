@@ -3,3 +3,6 @@ mod WordBits
 mod BetweenRows
 mod BelowSteps
 mod FloorSteps
+mod RowTests
+mod FloorTests
+mod FitTests

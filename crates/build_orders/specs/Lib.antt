@@ -3,3 +3,4 @@ pub mod Built
 pub mod Served
 -- What contracts cite beside these: views of values, and tests
 pub mod Words
+pub mod Orders

@@ -53,9 +53,15 @@ impl Left {
         ensures { (kind : Piece) → IsTrue result ↔ Fits (field_of self.now.cells) self.now.drops
             (record { piece = kind; cells = field_of piece.now.cells }) }
     {
-        without(piece.cells, self.cells) == 0
-            && piece.between & self.rows == 0
-            && piece.cells & self.floors != 0
-            && piece.cells & self.covered == 0
+        if without(piece.cells, self.cells) != 0 {
+            return false;
+        }
+        if piece.cells & self.floors == 0 {
+            return false;
+        }
+        if piece.between & self.rows != 0 {
+            return false;
+        }
+        piece.cells & self.covered == 0
     }
 }

@@ -3,4 +3,5 @@
 
 mod laid;
 mod left;
+mod walk;
 mod words;

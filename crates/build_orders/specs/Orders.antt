@@ -1,0 +1,62 @@
+-- Orders in which pieces of a list use up a set of cells, and what is left after those of a set of them.
+use Rattle.std.specs.Prelude.{◌≡◌, ◌⊎◌, ℕ, zero, suc, ◌+◌, ◌<◌, ◌^◌, Bool, true, false, if◌then◌else◌, List, [], ◌∷◌, length, map, slice_index, bit_or}
+use Rattle.lane_board.specs.Field.{Field, difference}
+use Rattle.lane_board.specs.Lanes.{has_bit}
+use Rattle.srs.specs.declared.piece.Piece.TheVariants.{I}
+use Rattle.empty_cells.specs.Spans.{HasNoCell}
+use Rattle.tiled_pieces.specs.TilingLists.{LaidPiece}
+use Rattle.build_orders.specs.declared.laid.Laid.{Laid}
+use Rattle.build_orders.specs.Built.{Fits}
+use Rattle.build_orders.specs.Words.{field_of}
+
+-- the cells of the piece at an index
+unfoldable pub cells_at : List Laid → ℕ → Field
+cells_at pieces i = field_of (slice_index (map (λ (piece : Laid). piece.cells) pieces) i)
+
+-- the weight of its kind
+unfoldable pub weight_at : List Laid → ℕ → ℕ
+weight_at pieces i = slice_index (map (λ (piece : Laid). piece.weight) pieces) i
+
+-- The piece at an index can be put into the set, and the bit is set in what is allowed at the number with its weight.
+pub record MayFollow (pieces : List Laid) (drops : Bool) (allowed : List ℕ) (bit : ℕ) (E : Field) (number i : ℕ) : Type 0 where
+  pub known : i < length pieces
+  pub fits : Fits E drops (record { piece = I; cells = cells_at pieces i })
+  pub permitted : has_bit (slice_index allowed (number + weight_at pieces i)) bit ≡ true
+
+-- the pieces at these indexes use up the set in this order
+unfoldable pub UsesUp : List Laid → Bool → List ℕ → ℕ → Field → ℕ → List ℕ → Type 0
+UsesUp pieces drops allowed bit E number [] = HasNoCell E
+UsesUp pieces drops allowed bit E number (i ∷ more) =
+    MayFollow pieces drops allowed bit E number i
+    × UsesUp pieces drops allowed bit (difference E (cells_at pieces i)) (number + weight_at pieces i) more
+
+-- some order of them does
+pub record HasOrder (pieces : List Laid) (drops : Bool) (allowed : List ℕ) (bit : ℕ) (E : Field) : Type 0 where
+  pub order : List ℕ
+  pub uses_up : UsesUp pieces drops allowed bit E 0 order
+
+-- what the first n pieces leave, of those whose bit is set
+unfoldable pub left_after : List Laid → Field → ℕ → ℕ → Field
+left_after pieces E set zero = E
+left_after pieces E set (suc n) =
+    if has_bit set n then difference (left_after pieces E set n) (cells_at pieces n) else left_after pieces E set n
+
+-- the sum of their weights
+unfoldable pub number_after : List Laid → ℕ → ℕ → ℕ
+number_after pieces set zero = 0
+number_after pieces set (suc n) =
+    number_after pieces set n + (if has_bit set n then weight_at pieces n else 0)
+
+-- A hand that is carried on: it was there, the piece is not in the set, and it may follow.
+pub record IsCarried (pieces : List Laid) (drops : Bool) (allowed : List ℕ) (hands set : ℕ) (E : Field) (number i bit : ℕ) : Type 0 where
+  pub unset : has_bit set i ≡ false
+  pub hand : has_bit hands bit ≡ true
+  pub follows : MayFollow pieces drops allowed bit E number i
+
+-- The first n pieces carry hands on from a set to those with one piece more.
+pub record Carries (pieces : List Laid) (drops : Bool) (allowed : List ℕ) (hands set : ℕ) (E : Field) (number : ℕ) (old new : List ℕ) (n : ℕ) : Type 0 where
+  pub keeps : (s bit : ℕ) → has_bit (slice_index old s) bit ≡ true → has_bit (slice_index new s) bit ≡ true
+  pub carries : (i bit : ℕ) → i < n → IsCarried pieces drops allowed hands set E number i bit
+      → has_bit (slice_index new (bit_or set (2 ^ i))) bit ≡ true
+  pub only : (s bit : ℕ) → has_bit (slice_index new s) bit ≡ true → (has_bit (slice_index old s) bit ≡ true)
+      ⊎ ((i : ℕ) × (s ≡ bit_or set (2 ^ i)) × IsCarried pieces drops allowed hands set E number i bit)
