@@ -13,7 +13,7 @@ use Rattle.build_orders.specs.Words.{field_of, has_above, has_floor, has_row, is
 use Rattle.build_orders.proofs.RowTests.{Between, CellOf, between_has, between_some, cell_from, cell_of, gone_row, row_gone, row_has, row_some}
 use Rattle.build_orders.proofs.FloorTests.{Above, above_has, above_some, floor_from, floor_test}
 
-none_set : (n : ℕ) → ((k : ℕ) → has_bit n k ≡ true → ⊥) → n ≡ 0
+pub none_set : (n : ℕ) → ((k : ℕ) → has_bit n k ≡ true → ⊥) → n ≡ 0
 none_set n none = same_from_columns n 0 (λ k. false_from_ne_true (has_bit n k) (none k) ∙ sym (has_bit-zero k))
 
 unset : (n k : ℕ) → n ≡ 0 → has_bit n k ≡ false

@@ -6,3 +6,5 @@ mod FloorSteps
 mod RowTests
 mod FloorTests
 mod FitTests
+mod SetLemmas
+mod WalkLemmas

@@ -60,3 +60,12 @@ pub record Carries (pieces : List Laid) (drops : Bool) (allowed : List ℕ) (han
       → has_bit (slice_index new (bit_or set (2 ^ i))) bit ≡ true
   pub only : (s bit : ℕ) → has_bit (slice_index new s) bit ≡ true → (has_bit (slice_index old s) bit ≡ true)
       ⊎ ((i : ℕ) × (s ≡ bit_or set (2 ^ i)) × IsCarried pieces drops allowed hands set E number i bit)
+
+-- What a visit of a set does: its hands are found where its pieces use up the cells, and else carried on.
+pub record Visits (pieces : List Laid) (drops : Bool) (allowed : List ℕ) (E : Field) (set : ℕ) (old new : List ℕ) (found : ℕ) : Type 0 where
+  pub finds : (bit : ℕ) → has_bit found bit ≡ true
+      → HasNoCell (left_after pieces E set (length pieces)) × (has_bit (slice_index old set) bit ≡ true)
+  pub ends : (bit : ℕ) → HasNoCell (left_after pieces E set (length pieces))
+      → has_bit (slice_index old set) bit ≡ true → has_bit found bit ≡ true
+  pub carries : Carries pieces drops allowed (slice_index old set) set (left_after pieces E set (length pieces))
+      (number_after pieces set (length pieces)) old new (length pieces)

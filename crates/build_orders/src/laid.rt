@@ -13,6 +13,7 @@ pub(crate) struct Laid {
     /// The rows between its rows.
     pub(crate) between: u8,
     ghost in_columns: { cells < 2 ^ 80 },
+    ghost light: { weight < 2 ^ 16 },
     ghost rows: { (z : ℕ) → z < 8 → has_bit between z ≡ is_between (has_row (field_of cells)) z },
 }
 

@@ -1,7 +1,9 @@
 // The walk over the sets of pieces.
 ghost use Rattle.std.specs.Prelude.{ℕ, ◌≡◌, ◌<◌, ◌≤◌, ◌^◌, ◌↔◌, length, slice_index, true};
 ghost use Rattle.lane_board.specs.Lanes.{has_bit};
-ghost use Rattle.build_orders.specs.Orders.{Carries, HasOrder, left_after, number_after};
+ghost use Rattle.build_orders.specs.Orders.{
+    Carries, HasOrder, IsCarried, Visits, left_after, number_after
+};
 ghost use Rattle.build_orders.specs.Words.{field_of};
 
 use crate::laid::Laid;
@@ -31,8 +33,9 @@ fn after(pieces: &[Laid], cells: u128, set: usize) -> (u128, usize)
     let mut number = 0;
     for index in 0..pieces.len() {
         if has(set, index) {
-            left = without(left, pieces[index].cells);
-            number += usize::from(pieces[index].weight);
+            let piece = pieces[index];
+            left = without(left, piece.cells);
+            number += usize::from(piece.weight);
         }
     }
     (left, number)
@@ -50,7 +53,38 @@ fn allowed_at(allowed: &[u64], number: usize) -> u64
     }
 }
 
-/// Carries hands on from a set of pieces to the sets with one more.
+/// The hands of a set that a piece carries on to the set with it.
+#[inline(always)]
+fn carried(
+    hands: u64,
+    set: usize,
+    index: usize,
+    number: usize,
+    left: &Left,
+    pieces: &[Laid],
+    allowed: &[u64],
+) -> u64
+    requires index { index < length pieces.now }
+    requires few { length pieces.now ≤ 8 }
+    requires number { number < 2 ^ 20 }
+    ensures { (bit : ℕ) → has_bit result bit ≡ true ↔ IsCarried pieces.now left.now.drops allowed.now hands set
+        (field_of left.now.cells) number index bit }
+{
+    if has(set, index) {
+        return 0;
+    }
+    let piece = pieces[index];
+    let bits = hands & allowed_at(allowed, number + usize::from(piece.weight));
+    if bits == 0 {
+        return 0;
+    }
+    if !left.fits(&piece) {
+        return 0;
+    }
+    bits
+}
+
+/// Carries the hands of a set on to the sets with one piece more.
 #[inline(always)]
 fn carry(
     table: &mut [u64; 256],
@@ -68,14 +102,36 @@ fn carry(
 {
     let hands = table[set];
     for index in 0..pieces.len() {
-        if has(set, index) {
-            continue;
-        }
-        let bits = hands & allowed_at(allowed, number + usize::from(pieces[index].weight));
-        if bits != 0 && left.fits(&pieces[index]) {
-            table[set | 1 << index] |= bits;
-        }
+        let bits = carried(hands, set, index, number, left, pieces, allowed);
+        table[set | 1 << index] |= bits;
     }
+}
+
+/// The hands of a set that are found, since its pieces use up the cells. Else they are carried on.
+#[inline(always)]
+fn visit(
+    table: &mut [u64; 256],
+    set: usize,
+    pieces: &[Laid],
+    cells: u128,
+    drops: bool,
+    allowed: &[u64],
+) -> u64
+    requires few { length pieces.now ≤ 8 }
+    requires set { set < 256 }
+    requires small { cells < 2 ^ 80 }
+    ensures { Visits pieces.now drops allowed.now (field_of cells) set table.old table.new result }
+{
+    let hands = table[set];
+    if hands == 0 {
+        return 0;
+    }
+    let (left, number) = after(pieces, cells, set);
+    if left == 0 {
+        return hands;
+    }
+    carry(table, set, number, &Left::new(left, drops), pieces, allowed);
+    0
 }
 
 /// The hands for which some order of the pieces uses up a set of cells.
@@ -95,15 +151,7 @@ pub(crate) fn served(
     table[0] = pending;
     let mut found = 0;
     for set in 0..1 << pieces.len() {
-        let hands = table[set];
-        if hands != 0 {
-            let (left, number) = after(pieces, cells, set);
-            if left == 0 {
-                found |= hands;
-            } else {
-                carry(&mut table, set, number, &Left::new(left, drops), pieces, allowed);
-            }
-        }
+        found |= visit(&mut table, set, pieces, cells, drops, allowed);
     }
     found
 }

@@ -1,5 +1,5 @@
 -- The rows between those of the cells.
-use Rattle.std.proofs.Common.{◌∙◌}
+use Rattle.std.proofs.Common.{◌∙◌, arith}
 use Rattle.lane_board.specs.Lanes.{has_bit}
 use Rattle.build_orders.specs.Words.{field_of, has_row}
 use Rattle.build_orders.proofs.RowTests.{between_same}
@@ -8,5 +8,6 @@ use Rattle.build_orders.proofs.laid.Laid.new.Goals as goal
 pub invariant_of-result : goal.invariant_of-result
 invariant_of-result c = record {
   in_columns = c.requires;
+  light = omega (arith, c.ranges.weight.fits);
   rows = λ z low. c.between.ensures z low ∙ between_same (has_bit c.rows_of.result) (has_row (field_of c.args.cells)) z low c.rows_of.ensures;
 }
