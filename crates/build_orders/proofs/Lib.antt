@@ -8,3 +8,4 @@ mod FloorTests
 mod FitTests
 mod SetLemmas
 mod WalkLemmas
+mod WalkSteps

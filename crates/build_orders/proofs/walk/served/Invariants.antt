@@ -1,0 +1,7 @@
+-- The sets so far.
+use Rattle.build_orders.specs.Words.{field_of}
+use Rattle.build_orders.proofs.WalkSteps.{Walked}
+use Rattle.build_orders.proofs.walk.served.Given as goal
+
+abbrev pub invariant-loop-set : goal.invariant-loop-set
+invariant-loop-set l = Walked l.pieces l.drops l.allowed l.pending (field_of l.cells) l.table l.found l.set
