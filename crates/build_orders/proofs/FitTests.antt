@@ -16,12 +16,17 @@ use Rattle.build_orders.proofs.FloorTests.{Above, above_has, above_some, floor_f
 pub none_set : (n : ℕ) → ((k : ℕ) → has_bit n k ≡ true → ⊥) → n ≡ 0
 none_set n none = same_from_columns n 0 (λ k. false_from_ne_true (has_bit n k) (none k) ∙ sym (has_bit-zero k))
 
-unset : (n k : ℕ) → n ≡ 0 → has_bit n k ≡ false
+pub unset : (n k : ℕ) → n ≡ 0 → has_bit n k ≡ false
 unset n k none = ap (λ n. has_bit n k) none ∙ has_bit-zero k
 
 -- the cell of a bit
 pub cell_at : (n k : ℕ) → has_bit n k ≡ true → field_of n (k / 8) (k % 8) ≡ true
 cell_at n k bit = cell_from n (k / 8) (k % 8) (omega arith) (ap (has_bit n) {x = 8 * (k / 8) + k % 8} {y = k} (omega arith) ∙ bit)
+
+-- a number that is not 0 has a bit
+pub some_bit : (n : ℕ) → n < 2 ^ 128 → (n ≡ 0 → ⊥) → (k : ℕ) × (has_bit n k ≡ true)
+unfolding has_bit
+some_bit n small some = (trailing_zeros w128 n, ap (λ b. b == 1) (bit_at-trailing_zeros w128 n (omega (arith, some)) small).1)
 
 without_none : (b d : Bool) → (b && not d) ≡ false → b ≡ true → d ≡ true
 without_none b d e is = search rules
@@ -62,12 +67,10 @@ module _ (e p : ℕ) (drops : Bool) (laid : LaidPiece) (is : laid.cells ≡ fiel
       (has_bit-and p floors (8 * rests.x + rests.y) ∙ and_from _ _ cell.bit (bits rests.x rests.y cell.column cell.row ∙ floor_test e rests.x rests.y small rests.floor))
 
   floor_some : (floors : ℕ) → ((x y : ℕ) → x ≤ 9 → y < 8 → has_bit floors (8 * x + y) ≡ has_floor (field_of e) x y) → (bit_and p floors ≡ 0 → ⊥) → Rests (field_of e) laid
-  unfolding has_bit
   floor_some floors bits some =
-      let n = bit_and p floors in
-      let lowest = bit_at-trailing_zeros w128 n (omega (arith, some)) (omega (arith, and_le_l p floors, small_p)) in
-      let k = trailing_zeros w128 n in
-      let both = and_parts (has_bit p k) (has_bit floors k) (sym (has_bit-and p floors k) ∙ ap (λ b. b == 1) lowest.1) in
+      let has = some_bit (bit_and p floors) (omega (arith, and_le_l p floors, small_p)) some in
+      let k = has.0 in
+      let both = and_parts (has_bit p k) (has_bit floors k) (sym (has_bit-and p floors k) ∙ has.1) in
       let here = cell_at p k both.0 in
       let cell = cell_of p (k / 8) (k % 8) small_p here in
       record {

@@ -9,3 +9,5 @@ mod FitTests
 mod SetLemmas
 mod WalkLemmas
 mod WalkSteps
+mod OrderLemmas
+mod PieceLemmas

@@ -3,8 +3,10 @@ use Rattle.std.specs.Prelude.{◌≡◌, ◌⊎◌, ℕ, zero, suc, ◌+◌, ◌
 use Rattle.lane_board.specs.Field.{Field, difference}
 use Rattle.lane_board.specs.Lanes.{has_bit}
 use Rattle.srs.specs.declared.piece.Piece.TheVariants.{I}
+use Rattle.srs.specs.Piece.{piece_code}
 use Rattle.empty_cells.specs.Spans.{HasNoCell}
-use Rattle.tiled_pieces.specs.TilingLists.{LaidPiece}
+use Rattle.tiled_pieces.specs.declared.listed.ListedTiling.{ListedTiling}
+use Rattle.tiled_pieces.specs.TilingLists.{LaidPiece, laid_at}
 use Rattle.build_orders.specs.declared.laid.Laid.{Laid}
 use Rattle.build_orders.specs.Built.{Fits}
 use Rattle.build_orders.specs.Words.{field_of}
@@ -69,3 +71,32 @@ pub record Visits (pieces : List Laid) (drops : Bool) (allowed : List ℕ) (E : 
       → has_bit (slice_index old set) bit ≡ true → has_bit found bit ≡ true
   pub carries : Carries pieces drops allowed (slice_index old set) set (left_after pieces E set (length pieces))
       (number_after pieces set (length pieces)) old new (length pieces)
+
+-- a set has cells, all of them in another one
+pub record LiesIn (piece E : Field) : Type 0 where
+  pub x : ℕ
+  pub y : ℕ
+  pub there : piece x y ≡ true
+  pub inside : (a b : ℕ) → piece a b ≡ true → E a b ≡ true
+
+-- the piece at an index of a list has these cells, and the weight of this kind
+pub record IsAt (weights : List ℕ) (pieces : List Laid) (laid : LaidPiece) (j : ℕ) : Type 0 where
+  pub known : j < length pieces
+  pub cells : cells_at pieces j ≡ laid.cells
+  pub weight : weight_at pieces j ≡ slice_index weights (piece_code laid.piece)
+
+-- some index has it
+pub record HasLaid (weights : List ℕ) (pieces : List Laid) (laid : LaidPiece) : Type 0 where
+  pub index : ℕ
+  pub here : IsAt weights pieces laid index
+
+-- a piece of a tiling is at an index
+pub record IsOf (tiling : ListedTiling) (weights : List ℕ) (pieces : List Laid) (j : ℕ) : Type 0 where
+  pub place : ℕ
+  pub low : place < 8
+  pub here : IsAt weights pieces (laid_at tiling place) j
+
+-- a list has pieces of a tiling alone, and those of the first n places that lie in a set
+pub record HasThose (tiling : ListedTiling) (E : Field) (weights : List ℕ) (pieces : List Laid) (n : ℕ) : Type 0 where
+  pub only : (j : ℕ) → j < length pieces → IsOf tiling weights pieces j
+  pub all : (place : ℕ) → place < n → LiesIn (laid_at tiling place).cells E → HasLaid weights pieces (laid_at tiling place)

@@ -27,7 +27,7 @@ fn spread(row: u16) -> u128
 }
 
 impl Empties {
-    ghost use Rattle.std.specs.Prelude.{◌-◌, ◌↔◌, ◌||◌, nat_le, not, IsTrue, MatchOption};
+    ghost use Rattle.std.specs.Prelude.{◌-◌, ◌↔◌, ◌||◌, nat_le, nat_lt, not, IsTrue, MatchOption};
     ghost use Rattle.lane_board.specs.Field.{empty_field, difference, rows_below};
     ghost use Rattle.well.specs.Well.{filled};
     ghost use Rattle.prune.specs.Counts.{run_empties};
@@ -54,6 +54,16 @@ impl Empties {
             cells |= spread(empty) << y;
         }
         Empties { cells }
+    }
+
+    /// The cells as a number: bit `8 * column + row` is set exactly if the set has the cell.
+    #[inline(always)]
+    pub fn bits(&self) -> u128
+        ensures small { result < 2 ^ 80 }
+        ensures cells { (x y : ℕ) → empty_cells self.now x y
+            ≡ (nat_lt y 8 && has_bit result (8 * x + y)) }
+    {
+        self.cells
     }
 
     /// Whether both sets have the same cells.

@@ -29,6 +29,15 @@ impl ListedTiling {
         false
     }
 
+    /// The piece at this index: its kind and its cells.
+    #[inline(always)]
+    pub fn piece_at(&self, index: usize) -> (Piece, Empties)
+        requires { index < 8 }
+        ensures { laid_at self.now index ≡ record { piece = result.0; cells = empty_cells result.1 } }
+    {
+        (self.kinds[index], self.cells[index])
+    }
+
     /// The cells of the piece at this index. `None` exactly if it is of another kind.
     #[inline(always)]
     pub fn cells_at(&self, index: usize, piece: Piece) -> Option<Empties>
