@@ -14,3 +14,5 @@ mod LookupLemmas
 mod TiledLemmas
 mod FittingLemmas
 mod SpreadLemmas
+mod RestingLemmas
+mod BuiltLemmas

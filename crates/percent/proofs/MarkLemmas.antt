@@ -86,24 +86,24 @@ tiled-left F q height rows E supply few spread free below t =
     (sends (together F q) height rows (difference E (sent_cells rows q)) few (spread-placed F height rows E spread q free below)) supply t
 
 -- a placement, with its rows sent
-abbrev sent_part : List ℕ → Placement → Part
+abbrev pub sent_part : List ℕ → Placement → Part
 sent_part rows q = part_to (λ y. get_or rows y 0) (placed q)
 
-abbrev laid : List ℕ → Placement → LaidPiece
+abbrev pub laid : List ℕ → Placement → LaidPiece
 laid rows q = record { piece = q.piece; cells = sent_cells rows q }
 
 cells-same : (rows : List ℕ) (cells : List Cell) → map (cell_to (λ y. get_or rows y 0)) cells ≡ map (sent_up rows) cells
 unfolding cell_to row_to sent_up
 cells-same rows cells = search rules
 
-laid-sent : (rows : List ℕ) (q : Placement) → laid_part (sent_part rows q) ≡ laid rows q
+pub laid-sent : (rows : List ℕ) (q : Placement) → laid_part (sent_part rows q) ≡ laid rows q
 unfolding sent_cells
 laid-sent rows q = λ i. record { piece = q.piece; cells = λ x y. is_among (cells-same rows (cells_of q) i) (pos x, pos y) }
 
-left-sent : (rows : List ℕ) (E : Field) (q : Placement) → left_by_part E (sent_part rows q) ≡ difference E (sent_cells rows q)
+pub left-sent : (rows : List ℕ) (E : Field) (q : Placement) → left_by_part E (sent_part rows q) ≡ difference E (sent_cells rows q)
 left-sent rows E q = ap (λ (piece : LaidPiece). difference E piece.cells) (laid-sent rows q)
 
-lies : (F : Field) (q : Placement) (height : ℕ) (rows : List ℕ) (E : Field) (supply : Supply) → height ≤ 8 → IsSmall 8 E → IsSpread F height rows E → is_free F q ≡ true → is_below height q ≡ true
+pub lies : (F : Field) (q : Placement) (height : ℕ) (rows : List ℕ) (E : Field) (supply : Supply) → height ≤ 8 → IsSmall 8 E → IsSpread F height rows E → is_free F q ≡ true → is_below height q ≡ true
     → 0 < supply q.piece → LiesIn E supply (sent_part rows q)
 unfolding cell_to row_to
 lies F q height rows E supply few small spread free below some = record {

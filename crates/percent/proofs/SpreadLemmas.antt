@@ -1,5 +1,6 @@
 -- Positions whose rows stand in rows of an earlier field: at the start, and after one more placement.
 use Rattle.std.proofs.Common.{◌≡◌, ℕ, zero, suc, ◌==◌, int_lt, nat_le, length, length-set, ◌+◌, ◌-◌, ◌<◌, ◌≤◌, Bool, true, false, not, ◌&&◌, ◌||◌, nat_lt, List, [], ◌∷◌, get_or, pos, negsuc, nat_abs, refl, sym, ap, ap₂, subst, ◌∙◌, inl, inr, arith, rules}
+use Rattle.std.proofs.Math.Path.{fun_ext}
 use Rattle.std.proofs.lemmas.Bool.{agree_below_at, and_from, and_parts, cases_eq, cases_lt, cases_order, eq-eqb, eqb-true, false≢true, leb-true, lt-ltb, ltb-true, not-true, or_left, or_right}
 use Rattle.std.proofs.Common.{set as list_set}
 use Rattle.std.proofs.lemmas.List.{get_or-set_other}
@@ -123,7 +124,7 @@ module _ (F : Field) (height : ℕ) (rows : List ℕ) (E : Field) (spread : IsSp
   ]
 
   -- its cells are sent to where their rows stand, and no others
-  sent_here : (x y : ℕ) → y < height → sent_cells rows q x (get_or rows y 0) ≡ is_among (cells_of q) (pos x, pos y)
+  pub sent_here : (x y : ℕ) → y < height → sent_cells rows q x (get_or rows y 0) ≡ is_among (cells_of q) (pos x, pos y)
   unfolding sent_cells sent_up
   sent_here x y low = same_from_both _ _
       (λ has. let from = sent_from (sent_up rows) (cells_of q) (pos x, pos (get_or rows y 0)) has in back from.0 (near from.0 from.1) from.1 from.2)
@@ -177,6 +178,13 @@ module _ (G : Field) (height : ℕ) (rows kept : List ℕ) (E : Field) (few : he
       (λ filled. lowered_to G 23 x k (record { row = o.row; below = let low = o.below in omega arith; filled = filled; stays = o.stays; lowered = o.lowered }))
       (λ left. let was = lowered_from G 23 x k left in subst (λ row. G x row ≡ true) (one_row G k was.row o.row was.stays o.stays was.lowered o.lowered) was.filled)
 
+  -- and no row is full
+  lowered-open : (k : ℕ) → k < height - full_below G 23 → is_full (without_full_rows G 23) k ≡ false
+  unfolding is_full
+  lowered-open k low =
+      let o = from k low in
+      ap (λ (p : ℕ → Bool). list_all p columns) (fun_ext (λ x. sym (left_same x k o))) ∙ o.stays
+
   pub spread-lowered : IsSpread (without_full_rows G 23) (height - full_below G 23) kept E
   spread-lowered = record {
     rises = λ y z lower below.
@@ -208,6 +216,15 @@ pub spread-after : (F : Field) (height : ℕ) (rows kept : List ℕ) (E : Field)
 unfolding locked rows_removed difference
 spread-after F height rows kept E q few low spread free below keeps within near =
     spread-lowered (together F q) height rows kept (difference E (sent_cells rows q)) few (together_below F q height low below)
+    (spread-placed F height rows E spread q free below) keeps within (λ x z here. near x z (and_parts (E x z) (not (sent_cells rows q x z)) here).0)
+
+-- which has no full row
+pub opens-after : (F : Field) (height : ℕ) (rows kept : List ℕ) (E : Field) (q : Placement) → height ≤ 8 → LiesBelow F height → IsSpread F height rows E → is_free F q ≡ true → is_below height q ≡ true
+    → KeepsRows (together F q) height rows kept → ((y : ℕ) → y < 8 → get_or kept y 0 < 8) → ((x z : ℕ) → E x z ≡ true → x < 10)
+    → (y : ℕ) → y < height - rows_removed F q → is_full (locked F q) y ≡ false
+unfolding locked rows_removed difference
+opens-after F height rows kept E q few low spread free below keeps within near =
+    lowered-open (together F q) height rows kept (difference E (sent_cells rows q)) few (together_below F q height low below)
     (spread-placed F height rows E spread q free below) keeps within (λ x z here. near x z (and_parts (E x z) (not (sent_cells rows q x z)) here).0)
 
 -- ---- which rows stay

@@ -1,7 +1,7 @@
 -- The pieces of a good hand fill what is empty.
 use Rattle.std.proofs.Common.{ℕ, zero, suc, ◌≡◌, ◌+◌, ◌-◌, ◌*◌, ◌/◌, ◌%◌, ◌≤◌, Bool, true, false, ◌&&◌, ◌==◌, cond, [], refl, sym, ap, subst, ◌∙◌, inl, inr, arith, rules}
 use Rattle.std.specs.List.{list_any}
-use Rattle.std.proofs.lemmas.Bool.{and_parts, eqb-true}
+use Rattle.std.proofs.lemmas.Bool.{and_from, and_parts, eqb-true, or_left, or_right}
 use Rattle.srs.proofs.CallerLemmas.{Contains-from_filter, placements_of-list, some_passes}
 use Rattle.lane_board.specs.Field.{Field}
 use Rattle.srs.specs.declared.piece.Piece.{Piece}
@@ -57,27 +57,28 @@ second-rest count hand code is = record {
     exchanged : (a b c : ℕ) → a + (b + c) ≡ b + (a + c)
     exchanged a b c = omega arith
 
--- a way to take a piece so that a test passes of what is left
-abbrev TakesRest : ℕ → ℕ → ℕ → (ℕ → Bool) → Type 0
-TakesRest count hand code goes_on = (rest : ℕ) × (goes_on rest ≡ true) × IsRest count hand code rest
+-- a way to take a piece so that a test passes of what is left; any other test that passes of it does as well
+abbrev pub TakesRest : Hold → ℕ → ℕ → ℕ → (ℕ → Bool) → Type 0
+TakesRest hold count hand code goes_on = (rest : ℕ) × (goes_on rest ≡ true) × IsRest count hand code rest
+    × ((other : ℕ → Bool) → other rest ≡ true → takes hold code other hand ≡ true)
 
-taken-rest : (hold : Hold) (count code hand : ℕ) (goes_on : ℕ → Bool) → takes hold code goes_on hand ≡ true → TakesRest (suc count) hand code goes_on
+pub taken-rest : (hold : Hold) (count code hand : ℕ) (goes_on : ℕ → Bool) → takes hold code goes_on hand ≡ true → TakesRest hold (suc count) hand code goes_on
 unfolding takes without_first without_second
 taken-rest hold count code hand goes_on passes = elim (or_cases (hand % 8 == code && goes_on (hand / 8)) _ passes) [
   | inl first ↦
       let parts = and_parts (hand % 8 == code) (goes_on (hand / 8)) first in
-      (hand / 8, parts.1, first-rest (suc count) hand code (eqb-true (hand % 8) code parts.0))
+      (hand / 8, parts.1, first-rest (suc count) hand code (eqb-true (hand % 8) code parts.0), λ other goes. or_left _ _ (and_from _ _ parts.0 goes))
   | inr second ↦
-      let later = (and_parts (allows_hold hold) (hand / 8 % 8 == code && goes_on (hand / 64 * 8 + hand % 8)) second).1 in
-      let parts = and_parts (hand / 8 % 8 == code) (goes_on (hand / 64 * 8 + hand % 8)) later in
-      (hand / 64 * 8 + hand % 8, parts.1, second-rest count hand code (eqb-true (hand / 8 % 8) code parts.0))
+      let later = and_parts (allows_hold hold) (hand / 8 % 8 == code && goes_on (hand / 64 * 8 + hand % 8)) second in
+      let parts = and_parts (hand / 8 % 8 == code) (goes_on (hand / 64 * 8 + hand % 8)) later.1 in
+      (hand / 64 * 8 + hand % 8, parts.1, second-rest count hand code (eqb-true (hand / 8 % 8) code parts.0), λ other goes. or_right _ _ (and_from _ _ later.0 (and_from _ _ parts.0 goes)))
 ]
 
 one_more : (same : Bool) (count : ℕ) → cond same (suc count) count ≡ cond same 1 0 + count
 one_more same count = search rules
 
 -- the supply of a hand has that of its rest and the piece
-rest-supplied : (count hand rest : ℕ) (piece : Piece) → IsRest count hand (piece_code piece) rest → (other : Piece) → with_one (supply_at count rest) piece other ≤ supply_at (suc count) hand other
+pub rest-supplied : (count hand rest : ℕ) (piece : Piece) → IsRest count hand (piece_code piece) rest → (other : Piece) → with_one (supply_at count rest) piece other ≤ supply_at (suc count) hand other
 unfolding supply_at with_one
 rest-supplied count hand rest piece is other = search (rules, one_more)
 

@@ -12,3 +12,4 @@ pub mod Spread
 pub mod Marks
 pub mod Wanted
 pub mod Standing
+pub mod BuildOrders

@@ -1,0 +1,325 @@
+-- A good hand has a tiling whose pieces are put in place in an order that the hand permits, each fitting when its turn comes.
+use Rattle.std.proofs.Common.{◌≡◌, ℕ, zero, suc, ◌+◌, ◌-◌, ◌<◌, ◌≤◌, Bool, true, false, cond, not, ◌&&◌, ◌==◌, nat_lt, List, [], ◌∷◌, length, get_or, map, pos, negsuc, nat_abs, refl, sym, ap, subst, ◌∙◌, inl, inr, arith}
+use Rattle.std.proofs.Common.{set as list_set}
+use Rattle.std.proofs.Math.Path.{fun_ext}
+use Rattle.std.specs.List.{list_any}
+use Rattle.std.proofs.lemmas.Bool.{agree_below_at, and_from, and_parts, and_right, both_ways, cases_Bool, cases_eq, cases_order, cond-false, eqb-true, false≢true, false_from_ne_true, not-true, not_from_false, not_from_true, true_from_ne_false}
+use Rattle.std.proofs.lemmas.List.{get_or-set_other}
+use Rattle.std.proofs.lemmas.List.Elements.{All-nil}
+use Rattle.std.proofs.lemmas.Grind.{get_or-set_at}
+use Rattle.lane_board.specs.Field.{Field, difference, rows_below}
+use Rattle.lane_board.specs.FullRows.{is_full}
+use Rattle.srs.specs.declared.placement.Placement.{Placement}
+use Rattle.srs.specs.Cells.{Cell, cells_of}
+use Rattle.srs.specs.Kick.{Table, srs_table}
+use Rattle.srs.specs.Piece.{all_pieces, piece_code}
+use Rattle.srs.specs.Placements.{placements_of}
+use Rattle.srs.specs.Rules.{table_of}
+use Rattle.srs.specs.SameCells.{is_among}
+use Rattle.srs.proofs.CallerLemmas.{Contains-from_filter, placements_of-list, some_passes}
+use Rattle.well.specs.Free.{is_free}
+use Rattle.well.specs.Lock.{locked, rows_removed, together}
+use Rattle.well.specs.LockLaws.{LiesBelow, is_below}
+use Rattle.moves.specs.declared.key.DropMode.{DropMode}
+use Rattle.moves.specs.Place.{IsPlace}
+use Rattle.moves.specs.PlaceTest.{is_place}
+use Rattle.moves.proofs.CallerLemmas.{is_place-decides as place-decides, place-free}
+use Rattle.hold_queue.specs.declared.hold.Hold.{Hold}
+use Rattle.problem.proofs.CallerLemmas.{IsLow, locked-low}
+use Rattle.prune.specs.Laws.{with_one}
+use Rattle.prune.specs.OnePart.{with_cells}
+use Rattle.prune.specs.Tiling.{IsGeneralized, Part, covers, is_empty_below}
+use Rattle.prune.proofs.CallerLemmas.{TilingOf, one_part_more}
+use Rattle.empty_cells.specs.Empties.{all_but}
+use Rattle.empty_cells.specs.SentCells.{sent_cells, sent_up}
+use Rattle.empty_cells.proofs.CallerLemmas.{IsSmall, empty_within, not_without, sent_from}
+use Rattle.tiled_pieces.specs.TilingLists.{LaidPiece, laid_part}
+use Rattle.tiled_pieces.proofs.CallerLemmas.{LiesIn, left_by_part}
+use Rattle.percent.specs.declared.game.Game.{Game}
+use Rattle.percent.specs.BuildOrders.{AreBuilt, Fits, HasOpenRows, IsBuiltBy, IsGone, IsHardSrs, Rests, takes_all}
+use Rattle.percent.specs.Fitting.{supply_at}
+use Rattle.percent.specs.GoodHands.{is_good, reached_places}
+use Rattle.percent.specs.Hands.{takes}
+use Rattle.percent.specs.Spread.{IsSpread, is_row_of}
+use Rattle.percent.proofs.MarkLemmas.{laid, laid-sent, left-sent, lies, sent_part}
+use Rattle.percent.proofs.RestingLemmas.{InRow, StandsOn, place-stands, row_between, sky-clear}
+use Rattle.percent.proofs.SpreadLemmas.{IsRowOf, Keeping, NearCell, keeping-ends, keeping-more, keeping-pass, keeping-starts, near, opens-after, row_of, sent_here, spread-after}
+use Rattle.percent.proofs.TiledLemmas.{IsRest, rest-supplied, taken-rest}
+
+-- a row that has all its cells is full
+all_filled : (F : Field) (y : ℕ) → ((x : ℕ) → x ≤ 9 → F x y ≡ true) → is_full F y ≡ true
+unfolding is_full
+all_filled F y each =
+    and_from _ _ (each 0 (omega arith)) (and_from _ _ (each 1 (omega arith)) (and_from _ _ (each 2 (omega arith)) (and_from _ _ (each 3 (omega arith)) (and_from _ _ (each 4 (omega arith))
+    (and_from _ _ (each 5 (omega arith)) (and_from _ _ (each 6 (omega arith)) (and_from _ _ (each 7 (omega arith)) (and_from _ _ (each 8 (omega arith)) (and_from _ _ (each 9 (omega arith)) refl)))))))))
+
+-- ---- a placement fits where it stands in the earlier field
+
+module _ (F : Field) (height : ℕ) (rows : List ℕ) (E : Field) (spread : IsSpread F height rows E) (q : Placement) (free : is_free F q ≡ true) (below : is_below height q ≡ true) where
+  -- where a cell of the earlier field comes from
+  record LaidAt (x z : ℕ) : Type 0 where
+    pub row : ℕ
+    pub column : x < 10
+    pub low : row < height
+    pub sent : get_or rows row 0 ≡ z
+    pub empty : F x row ≡ false
+    pub has : is_among (cells_of q) (pos x, pos row) ≡ true
+
+  laid_at : (x z : ℕ) → sent_cells rows q x z ≡ true → LaidAt x z
+  unfolding sent_cells sent_up
+  laid_at x z has =
+      let from = sent_from (sent_up rows) (cells_of q) (pos x, pos z) has in
+      at from.0 (near F height rows E spread q free below from.0 from.1) from.1 from.2
+    where
+      at : (c : Cell) → NearCell F height rows E spread q free below c → is_among (cells_of q) c ≡ true → sent_up rows c ≡ (pos x, pos z) → LaidAt x z
+      at c n listed sent =
+          let there : ◌≡◌ {A = Cell} (pos n.x, pos (get_or rows n.y 0)) (pos x, pos z) = sym (ap (sent_up rows) n.is) ∙ sent in
+          let column : n.x ≡ x = ap (λ (c : Cell). nat_abs c.0) there in
+          record {
+            row = n.y;
+            column = subst (λ x. x < 10) column n.column;
+            low = n.row;
+            sent = ap (λ (c : Cell). nat_abs c.1) there;
+            empty = subst (λ x. F x n.y ≡ false) column n.empty;
+            has = subst (λ c. is_among (cells_of q) c ≡ true) (n.is ∙ (λ i. (pos (column i), pos n.y))) listed;
+          }
+
+  -- rows that are sent higher lie higher
+  lies_lower : (y z : ℕ) → y < height → z < height → get_or rows y 0 < get_or rows z 0 → y < z
+  lies_lower y z low_y low_z lower = elim (cases_order y z) [
+    | inl same ↦ absurd (omega (arith, ap (λ n. get_or rows n 0) same, lower))
+    | inr apart ↦ elim apart [
+      | inl under ↦ under
+      | inr over ↦ absurd (omega (arith, spread.rises z y over low_y, lower))
+    ]
+  ]
+
+  inside : (x z : ℕ) → sent_cells rows q x z ≡ true → E x z ≡ true
+  inside x z has =
+      let at = laid_at x z has in
+      let column = at.column in
+      ap (E x) (sym at.sent) ∙ spread.same x at.row (omega arith) at.low ∙ ap not at.empty
+
+  unbroken : (x y u v z : ℕ) → sent_cells rows q x y ≡ true → sent_cells rows q u v ≡ true → y < z → z < v → IsGone (sent_cells rows q) z → IsGone E z
+  unbroken x y u v z has_low has_high above under none t = false_from_ne_true (E t z) (λ here.
+      let low = laid_at x y has_low in
+      let high = laid_at u v has_high in
+      let at = row_of height rows z (spread.only t z here) in
+      let sent = at.sent in
+      let between : InRow q at.row = row_between q F low.row at.row high.row free (x, low.has) (u, high.has)
+      (lies_lower low.row at.row low.low at.below (omega (arith, low.sent, sent, above))) (lies_lower at.row high.row at.below high.low (omega (arith, high.sent, sent, under))) in
+      both_ways _ (none between.0) (ap (sent_cells rows q between.0) (sym sent) ∙ sent_here F height rows E spread q free below between.0 at.row at.below ∙ between.1))
+
+  -- an empty cell comes from a row in which the field is empty
+  was_empty : (x y : ℕ) → x ≤ 9 → y < height → E x (get_or rows y 0) ≡ true → F x y ≡ false
+  was_empty x y column low here = not-true (F x y) (sym (spread.same x y column low) ∙ here)
+
+  was_filled : (x y : ℕ) → x ≤ 9 → y < height → E x (get_or rows y 0) ≡ false → F x y ≡ true
+  was_filled x y column low gone = true_from_ne_false (F x y) (λ empty. both_ways _ gone (spread.same x y column low ∙ ap not empty))
+
+  rests : HasOpenRows F height → StandsOn F q → Rests E (laid rows q)
+  rests opens stands = record {
+    x = stands.x;
+    y = get_or rows stands.y 0;
+    there = there;
+    floor = λ z lower gone. false_from_ne_true (E stands.x z) (λ here. on_filled z lower gone here (row_of height rows z (spread.only stands.x z here)));
+  }
+    where
+      from : NearCell F height rows E spread q free below (pos stands.x, pos stands.y)
+      from = near F height rows E spread q free below (pos stands.x, pos stands.y) stands.has
+
+      column : stands.x ≤ 9
+      column = let x : stands.x ≡ from.x = ap (λ (c : Cell). nat_abs c.0) from.is in let near = from.column in omega arith
+
+      low : stands.y < height
+      low = let y : stands.y ≡ from.y = ap (λ (c : Cell). nat_abs c.1) from.is in let under = from.row in omega arith
+
+      there : sent_cells rows q stands.x (get_or rows stands.y 0) ≡ true
+      there = sent_here F height rows E spread q free below stands.x stands.y low ∙ stands.has
+
+      on_filled : (z : ℕ) → z < get_or rows stands.y 0 → ((w : ℕ) → z < w → w < get_or rows stands.y 0 → IsGone E w) → E stands.x z ≡ true → IsRowOf height rows z → ⊥
+      on_filled z lower gone here at =
+          let sent = at.sent in
+          let lies = lies_lower at.row stands.y at.below low (omega (arith, sent, lower)) in
+          let under = stands.y - 1 in
+          let inside : under < height = omega (arith, low) in
+          let up : stands.y ≡ suc under = omega arith in
+          elim (cases_eq at.row under) [
+            | inl same ↦ both_ways _ (was_empty stands.x at.row column at.below (ap (E stands.x) sent ∙ here)) (ap (F stands.x) same ∙ stands.filled under up)
+            | inr apart ↦
+                let from_z = spread.rises at.row under (omega (arith, apart, lies)) inside in
+                let to_y = spread.rises under stands.y (omega (arith, up)) low in
+                let none = gone (get_or rows under 0) (omega (arith, from_z, sent)) to_y in
+                both_ways _ (opens.each under inside) (all_filled F under (λ x near. was_filled x under near inside (none x)))
+          ]
+
+  clear : ((x y k : ℕ) → is_among (cells_of q) (pos x, pos y) ≡ true → y ≤ k → F x k ≡ false)
+      → (x y z : ℕ) → sent_cells rows q x y ≡ true → y < z → z < 8 → E x z ≡ false → IsGone E z
+  clear sky x y z has above low filled t = false_from_ne_true (E t z) (λ here.
+      let from = laid_at x y has in
+      let column = from.column in
+      let at = row_of height rows z (spread.only t z here) in
+      let sent = at.sent in
+      let higher = lies_lower from.row at.row from.low at.below (omega (arith, from.sent, sent, above)) in
+      both_ways _ (sky x from.row at.row from.has (omega arith)) (was_filled x at.row (omega arith) at.below (ap (E x) sent ∙ filled)))
+
+  fits : (drops : Bool) → HasOpenRows F height → StandsOn F q → (drops ≡ true → (x y k : ℕ) → is_among (cells_of q) (pos x, pos y) ≡ true → y ≤ k → F x k ≡ false) → Fits E drops (laid rows q)
+  fits drops opens stands sky = record {
+    inside = inside;
+    unbroken = unbroken;
+    rests = rests opens stands;
+    clear = λ must. clear (sky must);
+  }
+
+-- ---- the rows that stay
+
+-- those of the first y rows that stay
+record KeptBelow (G : Field) (rows : List ℕ) (y : ℕ) : Type 0 where
+  pub kept : List ℕ
+  pub count : ℕ
+  pub keeping : Keeping G rows kept count y
+  pub within : (k : ℕ) → k < 8 → get_or kept k 0 < 8
+
+zeros : List ℕ
+zeros = 0 ∷ 0 ∷ 0 ∷ 0 ∷ 0 ∷ 0 ∷ 0 ∷ 0 ∷ []
+
+zero_at : (k : ℕ) → k < 8 → get_or zeros k 0 < 8
+unfolding zeros
+zero_at k low =
+    let zero : get_or zeros k 0 ≡ 0 = eqb-true _ _ (agree_below_at (λ k. get_or zeros k 0 == 0) (λ k. true) 8 k refl low) in
+    omega (arith, zero)
+
+small_set : (kept : List ℕ) (count row : ℕ) → count < length kept → row < 8 → ((k : ℕ) → k < 8 → get_or kept k 0 < 8) → (k : ℕ) → k < 8 → get_or (list_set kept count row) k 0 < 8
+small_set kept count row within small each k low = elim (cases_eq k count) [
+  | inl same ↦ let put = get_or-set_at kept count k row 0 same within in omega (arith, put)
+  | inr apart ↦ let put = get_or-set_other kept count k row 0 apart in let old = each k low in omega (arith, put)
+]
+
+kept_below : (G : Field) (rows : List ℕ) → ((y : ℕ) → y < 8 → get_or rows y 0 < 8) → (y : ℕ) → y ≤ 8 → KeptBelow G rows y
+unfolding zeros
+kept_below G rows small zero few = record { kept = zeros; count = 0; keeping = keeping-starts G rows zeros refl; within = zero_at }
+kept_below G rows small (suc y) few =
+    let old = kept_below G rows small y (omega arith) in
+    let next : y + 1 ≡ suc y = omega arith in
+    elim (cases_Bool (is_full G y)) [
+      | inl full ↦ record { kept = old.kept; count = old.count; keeping = subst (Keeping G rows old.kept old.count) next (keeping-pass G rows old.kept old.count y full old.keeping); within = old.within }
+      | inr stays ↦ record {
+        kept = list_set old.kept old.count (get_or rows y 0);
+        count = old.count + 1;
+        keeping = subst (Keeping G rows (list_set old.kept old.count (get_or rows y 0)) (old.count + 1)) next (keeping-more G rows old.kept old.count y (omega arith) stays old.keeping);
+        within = small_set old.kept old.count (get_or rows y 0) (let size = old.keeping.size in let counted = old.keeping.counted in omega arith) (small y (omega arith)) old.within;
+      }
+    ]
+
+-- a position after a placement, in the rows of the earlier field
+record After (F : Field) (height : ℕ) (E : Field) (rows : List ℕ) (q : Placement) : Type 0 where
+  pub kept : List ℕ
+  pub spread : IsSpread (locked F q) (height - rows_removed F q) kept (difference E (sent_cells rows q))
+  pub opens : HasOpenRows (locked F q) (height - rows_removed F q)
+
+after : (F : Field) (height : ℕ) (E : Field) (rows : List ℕ) (q : Placement) → height ≤ 8 → IsLow F height → IsSmall 8 E → IsSpread F height rows E → is_free F q ≡ true → is_below height q ≡ true → After F height E rows q
+unfolding locked rows_removed
+after F height E rows q few low small spread free below =
+    let old = kept_below (together F q) rows spread.within height few in
+    let keeps = keeping-ends (together F q) rows old.kept old.count height height refl old.keeping in
+    let lies : LiesBelow F height = record { none = low.none } in
+    record {
+      kept = old.kept;
+      spread = spread-after F height rows old.kept E q few lies spread free below keeps old.within small.column;
+      opens = record { each = opens-after F height rows old.kept E q few lies spread free below keeps old.within small.column };
+    }
+
+-- ---- the law
+
+less-small : (E cells : Field) → IsSmall 8 E → IsSmall 8 (difference E cells)
+unfolding difference
+less-small E cells small = record {
+  column = λ a b here. small.column a b (and_parts (E a b) (not (cells a b)) here).0;
+  row = λ a b here. small.row a b (and_parts (E a b) (not (cells a b)) here).0;
+}
+
+-- nothing is left to build where no row is left
+nothing-built : (F E : Field) (rows : List ℕ) (drops : Bool) (hold : Hold) (height count hand : ℕ) → height ≡ 0 → IsSpread F height rows E → IsBuiltBy E drops hold count hand
+unfolding is_row_of is_empty_below all_but rows_below covers AreBuilt takes_all
+nothing-built F E rows drops hold height count hand none spread = record {
+  tiling = record {
+    parts = [];
+    generalized = All-nil IsGeneralized;
+    covered = λ c. sym (cond-false {A = ℕ} _ 1 0 (no_cell c));
+    supplied = λ piece. omega arith;
+  };
+  built = tt;
+  taken = refl;
+}
+  where
+    no_cell : (c : Cell) → is_empty_below (all_but E) 8 c ≡ false
+    no_cell (pos x, pos y) = and_right (nat_lt x 10 && nat_lt y 8) _ (not_from_true _ (not_from_false (E x y) (false_from_ne_true (E x y) (λ here.
+        false≢true (ap (λ n. is_row_of n rows y) (sym none) ∙ spread.only x y here)))))
+    no_cell (pos x, negsuc y) = refl
+    no_cell (negsuc x, pos y) = refl
+    no_cell (negsuc x, negsuc y) = refl
+
+left_is : (E : Field) (part : Part) → all_but (left_by_part E part) ≡ with_cells (all_but E) part.cells
+unfolding all_but difference with_cells
+left_is E part = sym (fun_ext (λ a. fun_ext (λ b. not_without (E a b) (is_among part.cells (pos a, pos b)))))
+
+-- one piece more is built first
+first-built : (E : Field) (rows : List ℕ) (q : Placement) (drops : Bool) (hold : Hold) (count hand rest : ℕ) → LiesIn E (λ piece. 1) (sent_part rows q) → IsRest count hand (piece_code q.piece) rest
+    → Fits E drops (laid rows q) → ((goes_on : ℕ → Bool) → goes_on rest ≡ true → takes hold (piece_code q.piece) goes_on hand ≡ true)
+    → IsBuiltBy (difference E (sent_cells rows q)) drops hold count rest → IsBuiltBy E drops hold (suc count) hand
+unfolding AreBuilt takes_all
+first-built E rows q drops hold count hand rest lies is fits taken later = record {
+  tiling = record {
+    parts = with.tiling.parts;
+    generalized = with.tiling.generalized;
+    covered = with.tiling.covered;
+    supplied = λ other. omega (arith, with.tiling.supplied other, rest-supplied count hand rest q.piece is other);
+  };
+  built = subst (λ (parts : List Part). AreBuilt E drops (map laid_part parts)) (sym with.parts_are)
+      (subst (λ (laid : LaidPiece). Fits E drops laid × AreBuilt (difference E laid.cells) drops (map laid_part later.tiling.parts)) (sym (laid-sent rows q)) (fits, later.built));
+  taken = subst (λ (parts : List Part). takes_all hold hand (map (λ (part : Part). part.piece) parts) ≡ true) (sym with.parts_are)
+      (taken (λ rest. takes_all hold rest (map (λ (part : Part). part.piece) later.tiling.parts)) later.taken);
+}
+  where
+    part : Part
+    part = sent_part rows q
+
+    left : all_but (difference E (sent_cells rows q)) ≡ with_cells (all_but E) part.cells
+    left = ap all_but (sym (left-sent rows E q)) ∙ left_is E part
+
+    with : TilingOf (all_but E) 8 (with_one (supply_at count rest) q.piece) (part ∷ later.tiling.parts)
+    with = one_part_more (all_but E) 8 part (supply_at count rest) lies.generalized (empty_within 8 E part.cells lies.small lies.inside) (record {
+      parts = later.tiling.parts;
+      generalized = later.tiling.generalized;
+      covered = subst (λ (F : Field). (cell : Cell) → covers later.tiling.parts cell ≡ cond (is_empty_below F 8 cell) 1 0) left later.tiling.covered;
+      supplied = later.tiling.supplied;
+    })
+
+-- a good hand builds what is empty
+pub good-built : (game : Game) (drops : Bool) (F : Field) (height left hand count : ℕ) (rows : List ℕ) (E : Field) → (drops ≡ true → IsHardSrs game)
+    → height ≤ 8 → IsLow F height → HasOpenRows F height → IsSmall 8 E → IsSpread F height rows E → suc left ≤ count
+    → is_good game F height left hand ≡ true → IsBuiltBy E drops game.hold count hand
+unfolding is_good reached_places
+good-built game drops F height zero hand count rows E hard few low opens small spread enough good =
+    nothing-built F E rows drops game.hold height count hand (eqb-true height 0 good) spread
+good-built game drops F height (suc left) hand zero rows E hard few low opens small spread enough good = absurd (omega arith)
+good-built game drops F height (suc left) hand (suc zero) rows E hard few low opens small spread enough good = absurd (omega arith)
+good-built game drops F height (suc left) hand (suc (suc count)) rows E hard few low opens small spread enough good =
+    let kind = some_passes (λ piece. takes game.hold (piece_code piece)
+    (λ rest. list_any (λ q. is_below height q && is_good game (locked F q) (height - rows_removed F q) left rest) (reached_places game F piece)) hand) all_pieces good in
+    let way = taken-rest game.hold count (piece_code kind.0) hand (λ rest. list_any (λ q. is_below height q && is_good game (locked F q) (height - rows_removed F q) left rest) (reached_places game F kind.0)) kind.2 in
+    let found = some_passes (λ q. is_below height q && is_good game (locked F q) (height - rows_removed F q) left way.0) (reached_places game F kind.0) way.1 in
+    let q : Placement = found.0 in
+    let parts = and_parts (is_below height q) (is_good game (locked F q) (height - rows_removed F q) left way.0) found.2 in
+    let kept = Contains-from_filter (is_place (table_of game.rules) F game.drop_mode) (placements_of kind.0) q found.1 in
+    let of_kind : kind.0 ≡ q.piece = sym (((placements_of-list kind.0).members q).0 kept.0).kind in
+    let place = (place-decides (table_of game.rules) F game.drop_mode q).0 kept.1 in
+    let free = place-free (table_of game.rules) F game.drop_mode q place in
+    let next = after F height E rows q few low small spread free parts.0 in
+    let later = good-built game drops (locked F q) (height - rows_removed F q) left way.0 (suc count) next.kept (difference E (sent_cells rows q)) hard
+    (omega arith) (locked-low F height q low parts.0 free) next.opens (less-small E (sent_cells rows q) small) next.spread (omega arith) parts.1 in
+    first-built E rows q drops game.hold (suc count) hand way.0 (lies F q height rows E (λ piece. 1) few small spread free parts.0 (omega arith))
+    (subst (λ p. IsRest (suc count) hand (piece_code p) way.0) of_kind way.2)
+    (fits F height rows E spread q free parts.0 drops opens (place-stands (table_of game.rules) F game.drop_mode q place)
+    (λ must. let is = hard must in sky-clear F height q (omega arith) low.none (subst (λ (m : DropMode). IsPlace srs_table F m q) is.mode (subst (λ (T : Table). IsPlace T F game.drop_mode q) is.table place))))
+    (subst (λ p. (goes_on : ℕ → Bool) → goes_on way.0 ≡ true → takes game.hold (piece_code p) goes_on hand ≡ true) of_kind way.3) later
