@@ -1,12 +1,10 @@
 -- A good hand has a tiling whose pieces are put in place in an order that the hand permits, each fitting when its turn comes.
-use Rattle.std.proofs.Common.{◌≡◌, ℕ, zero, suc, ◌+◌, ◌-◌, ◌<◌, ◌≤◌, Bool, true, false, cond, not, ◌&&◌, ◌==◌, nat_lt, List, [], ◌∷◌, length, get_or, map, pos, negsuc, nat_abs, refl, sym, ap, subst, ◌∙◌, inl, inr, arith}
+use Rattle.std.proofs.Common.{◌≡◌, ℕ, zero, suc, ◌+◌, ◌-◌, ◌<◌, ◌≤◌, Bool, true, false, cond, not, ◌&&◌, nat_lt, List, [], ◌∷◌, length, get_or, map, pos, negsuc, nat_abs, refl, sym, ap, subst, ◌∙◌, inl, inr, arith}
 use Rattle.std.proofs.Common.{set as list_set}
 use Rattle.std.proofs.Math.Path.{fun_ext}
 use Rattle.std.specs.List.{list_any}
-use Rattle.std.proofs.lemmas.Bool.{agree_below_at, and_from, and_parts, and_right, both_ways, cases_Bool, cases_eq, cases_order, cond-false, eqb-true, false≢true, false_from_ne_true, not-true, not_from_false, not_from_true, true_from_ne_false}
-use Rattle.std.proofs.lemmas.List.{get_or-set_other}
+use Rattle.std.proofs.lemmas.Bool.{and_from, and_parts, and_right, both_ways, cases_Bool, cases_eq, cases_order, cond-false, eqb-true, false≢true, false_from_ne_true, not-true, not_from_false, not_from_true, true_from_ne_false}
 use Rattle.std.proofs.lemmas.List.Elements.{All-nil}
-use Rattle.std.proofs.lemmas.Grind.{get_or-set_at}
 use Rattle.lane_board.specs.Field.{Field, difference, rows_below}
 use Rattle.lane_board.specs.FullRows.{is_full}
 use Rattle.srs.specs.declared.placement.Placement.{Placement}
@@ -31,19 +29,21 @@ use Rattle.prune.specs.OnePart.{with_cells}
 use Rattle.prune.specs.Tiling.{IsGeneralized, Part, covers, is_empty_below}
 use Rattle.prune.proofs.CallerLemmas.{TilingOf, one_part_more}
 use Rattle.empty_cells.specs.Empties.{all_but}
+use Rattle.empty_cells.specs.Spans.{HasNoCell}
 use Rattle.empty_cells.specs.SentCells.{sent_cells, sent_up}
 use Rattle.empty_cells.proofs.CallerLemmas.{IsSmall, empty_within, not_without, sent_from}
 use Rattle.tiled_pieces.specs.TilingLists.{LaidPiece, laid_part}
 use Rattle.tiled_pieces.proofs.CallerLemmas.{LiesIn, left_by_part}
 use Rattle.percent.specs.declared.game.Game.{Game}
-use Rattle.percent.specs.BuildOrders.{AreBuilt, Fits, HasOpenRows, IsBuiltBy, IsGone, IsHardSrs, Rests, takes_all}
+use Rattle.percent.specs.BuildOrders.{AreBuilt, Fits, IsGone, Rests, left_by}
+use Rattle.percent.specs.BuiltHands.{HasOpenRows, IsBuiltBy, IsHardSrs, takes_all}
 use Rattle.percent.specs.Fitting.{supply_at}
 use Rattle.percent.specs.GoodHands.{is_good, reached_places}
 use Rattle.percent.specs.Hands.{takes}
 use Rattle.percent.specs.Spread.{IsSpread, is_row_of}
 use Rattle.percent.proofs.MarkLemmas.{laid, laid-sent, left-sent, lies, sent_part}
 use Rattle.percent.proofs.RestingLemmas.{InRow, StandsOn, place-stands, row_between, sky-clear}
-use Rattle.percent.proofs.SpreadLemmas.{IsRowOf, Keeping, NearCell, keeping-ends, keeping-more, keeping-pass, keeping-starts, near, opens-after, row_of, sent_here, spread-after}
+use Rattle.percent.proofs.SpreadLemmas.{IsRowOf, Keeping, NearCell, keeping-ends, keeping-more, keeping-pass, keeping-starts, near, opens-after, row_of, sent_here, small_set, spread-after, zero_at}
 use Rattle.percent.proofs.TiledLemmas.{IsRest, rest-supplied, taken-rest}
 
 -- a row that has all its cells is full
@@ -180,24 +180,8 @@ record KeptBelow (G : Field) (rows : List ℕ) (y : ℕ) : Type 0 where
   pub keeping : Keeping G rows kept count y
   pub within : (k : ℕ) → k < 8 → get_or kept k 0 < 8
 
-zeros : List ℕ
-zeros = 0 ∷ 0 ∷ 0 ∷ 0 ∷ 0 ∷ 0 ∷ 0 ∷ 0 ∷ []
-
-zero_at : (k : ℕ) → k < 8 → get_or zeros k 0 < 8
-unfolding zeros
-zero_at k low =
-    let zero : get_or zeros k 0 ≡ 0 = eqb-true _ _ (agree_below_at (λ k. get_or zeros k 0 == 0) (λ k. true) 8 k refl low) in
-    omega (arith, zero)
-
-small_set : (kept : List ℕ) (count row : ℕ) → count < length kept → row < 8 → ((k : ℕ) → k < 8 → get_or kept k 0 < 8) → (k : ℕ) → k < 8 → get_or (list_set kept count row) k 0 < 8
-small_set kept count row within small each k low = elim (cases_eq k count) [
-  | inl same ↦ let put = get_or-set_at kept count k row 0 same within in omega (arith, put)
-  | inr apart ↦ let put = get_or-set_other kept count k row 0 apart in let old = each k low in omega (arith, put)
-]
-
 kept_below : (G : Field) (rows : List ℕ) → ((y : ℕ) → y < 8 → get_or rows y 0 < 8) → (y : ℕ) → y ≤ 8 → KeptBelow G rows y
-unfolding zeros
-kept_below G rows small zero few = record { kept = zeros; count = 0; keeping = keeping-starts G rows zeros refl; within = zero_at }
+kept_below G rows small zero few = record { kept = 0 ∷ 0 ∷ 0 ∷ 0 ∷ 0 ∷ 0 ∷ 0 ∷ 0 ∷ []; count = 0; keeping = keeping-starts G rows _ refl; within = zero_at }
 kept_below G rows small (suc y) few =
     let old = kept_below G rows small y (omega arith) in
     let next : y + 1 ≡ suc y = omega arith in
@@ -239,44 +223,51 @@ less-small E cells small = record {
 }
 
 -- nothing is left to build where no row is left
-nothing-built : (F E : Field) (rows : List ℕ) (drops : Bool) (hold : Hold) (height count hand : ℕ) → height ≡ 0 → IsSpread F height rows E → IsBuiltBy E drops hold count hand
-unfolding is_row_of is_empty_below all_but rows_below covers AreBuilt takes_all
-nothing-built F E rows drops hold height count hand none spread = record {
+nothing-built : (F E : Field) (rows : List ℕ) (drops : Bool) (hold : Hold) (height hand : ℕ) → height ≡ 0 → IsSpread F height rows E → IsBuiltBy E drops hold 0 hand
+unfolding is_row_of is_empty_below all_but rows_below covers AreBuilt left_by takes_all
+nothing-built F E rows drops hold height hand none spread = record {
   tiling = record {
     parts = [];
     generalized = All-nil IsGeneralized;
-    covered = λ c. sym (cond-false {A = ℕ} _ 1 0 (no_cell c));
+    covered = λ c. sym (cond-false {A = ℕ} _ 1 0 (not_empty c));
     supplied = λ piece. omega arith;
   };
+  size = refl;
   built = tt;
+  uses_up = record { none = no_cell };
   taken = refl;
 }
   where
-    no_cell : (c : Cell) → is_empty_below (all_but E) 8 c ≡ false
-    no_cell (pos x, pos y) = and_right (nat_lt x 10 && nat_lt y 8) _ (not_from_true _ (not_from_false (E x y) (false_from_ne_true (E x y) (λ here.
-        false≢true (ap (λ n. is_row_of n rows y) (sym none) ∙ spread.only x y here)))))
-    no_cell (pos x, negsuc y) = refl
-    no_cell (negsuc x, pos y) = refl
-    no_cell (negsuc x, negsuc y) = refl
+    no_cell : (x y : ℕ) → E x y ≡ false
+    no_cell x y = false_from_ne_true (E x y) (λ here. false≢true (ap (λ n. is_row_of n rows y) (sym none) ∙ spread.only x y here))
+
+    not_empty : (c : Cell) → is_empty_below (all_but E) 8 c ≡ false
+    not_empty (pos x, pos y) = and_right (nat_lt x 10 && nat_lt y 8) _ (not_from_true _ (not_from_false (E x y) (no_cell x y)))
+    not_empty (pos x, negsuc y) = refl
+    not_empty (negsuc x, pos y) = refl
+    not_empty (negsuc x, negsuc y) = refl
 
 left_is : (E : Field) (part : Part) → all_but (left_by_part E part) ≡ with_cells (all_but E) part.cells
 unfolding all_but difference with_cells
 left_is E part = sym (fun_ext (λ a. fun_ext (λ b. not_without (E a b) (is_among part.cells (pos a, pos b)))))
 
 -- one piece more is built first
-first-built : (E : Field) (rows : List ℕ) (q : Placement) (drops : Bool) (hold : Hold) (count hand rest : ℕ) → LiesIn E (λ piece. 1) (sent_part rows q) → IsRest count hand (piece_code q.piece) rest
+first-built : (E : Field) (rows : List ℕ) (q : Placement) (drops : Bool) (hold : Hold) (left hand rest : ℕ) → LiesIn E (λ piece. 1) (sent_part rows q) → IsRest (suc left) hand (piece_code q.piece) rest
     → Fits E drops (laid rows q) → ((goes_on : ℕ → Bool) → goes_on rest ≡ true → takes hold (piece_code q.piece) goes_on hand ≡ true)
-    → IsBuiltBy (difference E (sent_cells rows q)) drops hold count rest → IsBuiltBy E drops hold (suc count) hand
-unfolding AreBuilt takes_all
-first-built E rows q drops hold count hand rest lies is fits taken later = record {
+    → IsBuiltBy (difference E (sent_cells rows q)) drops hold left rest → IsBuiltBy E drops hold (suc left) hand
+unfolding AreBuilt left_by takes_all
+first-built E rows q drops hold left hand rest lies is fits taken later = record {
   tiling = record {
     parts = with.tiling.parts;
     generalized = with.tiling.generalized;
     covered = with.tiling.covered;
-    supplied = λ other. omega (arith, with.tiling.supplied other, rest-supplied count hand rest q.piece is other);
+    supplied = λ other. omega (arith, with.tiling.supplied other, rest-supplied (suc left) hand rest q.piece is other);
   };
+  size = ap length with.parts_are ∙ ap suc later.size;
   built = subst (λ (parts : List Part). AreBuilt E drops (map laid_part parts)) (sym with.parts_are)
-      (subst (λ (laid : LaidPiece). Fits E drops laid × AreBuilt (difference E laid.cells) drops (map laid_part later.tiling.parts)) (sym (laid-sent rows q)) (fits, later.built));
+      (subst (λ (laid : LaidPiece). Fits E drops laid × AreBuilt (difference E laid.cells) drops more) (sym (laid-sent rows q)) (fits, later.built));
+  uses_up = subst (λ (parts : List Part). HasNoCell (left_by E (map laid_part parts))) (sym with.parts_are)
+      (subst (λ (laid : LaidPiece). HasNoCell (left_by (difference E laid.cells) more)) (sym (laid-sent rows q)) later.uses_up);
   taken = subst (λ (parts : List Part). takes_all hold hand (map (λ (part : Part). part.piece) parts) ≡ true) (sym with.parts_are)
       (taken (λ rest. takes_all hold rest (map (λ (part : Part). part.piece) later.tiling.parts)) later.taken);
 }
@@ -284,30 +275,31 @@ first-built E rows q drops hold count hand rest lies is fits taken later = recor
     part : Part
     part = sent_part rows q
 
-    left : all_but (difference E (sent_cells rows q)) ≡ with_cells (all_but E) part.cells
-    left = ap all_but (sym (left-sent rows E q)) ∙ left_is E part
+    more : List LaidPiece
+    more = map laid_part later.tiling.parts
 
-    with : TilingOf (all_but E) 8 (with_one (supply_at count rest) q.piece) (part ∷ later.tiling.parts)
-    with = one_part_more (all_but E) 8 part (supply_at count rest) lies.generalized (empty_within 8 E part.cells lies.small lies.inside) (record {
+    covered_part : all_but (difference E (sent_cells rows q)) ≡ with_cells (all_but E) part.cells
+    covered_part = ap all_but (sym (left-sent rows E q)) ∙ left_is E part
+
+    with : TilingOf (all_but E) 8 (with_one (supply_at (suc left) rest) q.piece) (part ∷ later.tiling.parts)
+    with = one_part_more (all_but E) 8 part (supply_at (suc left) rest) lies.generalized (empty_within 8 E part.cells lies.small lies.inside) (record {
       parts = later.tiling.parts;
       generalized = later.tiling.generalized;
-      covered = subst (λ (F : Field). (cell : Cell) → covers later.tiling.parts cell ≡ cond (is_empty_below F 8 cell) 1 0) left later.tiling.covered;
+      covered = subst (λ (F : Field). (cell : Cell) → covers later.tiling.parts cell ≡ cond (is_empty_below F 8 cell) 1 0) covered_part later.tiling.covered;
       supplied = later.tiling.supplied;
     })
 
 -- a good hand builds what is empty
-pub good-built : (game : Game) (drops : Bool) (F : Field) (height left hand count : ℕ) (rows : List ℕ) (E : Field) → (drops ≡ true → IsHardSrs game)
-    → height ≤ 8 → IsLow F height → HasOpenRows F height → IsSmall 8 E → IsSpread F height rows E → suc left ≤ count
-    → is_good game F height left hand ≡ true → IsBuiltBy E drops game.hold count hand
+pub good-built : (game : Game) (drops : Bool) (F : Field) (height left hand : ℕ) (rows : List ℕ) (E : Field) → (drops ≡ true → IsHardSrs game)
+    → height ≤ 8 → IsLow F height → HasOpenRows F height → IsSmall 8 E → IsSpread F height rows E
+    → is_good game F height left hand ≡ true → IsBuiltBy E drops game.hold left hand
 unfolding is_good reached_places
-good-built game drops F height zero hand count rows E hard few low opens small spread enough good =
-    nothing-built F E rows drops game.hold height count hand (eqb-true height 0 good) spread
-good-built game drops F height (suc left) hand zero rows E hard few low opens small spread enough good = absurd (omega arith)
-good-built game drops F height (suc left) hand (suc zero) rows E hard few low opens small spread enough good = absurd (omega arith)
-good-built game drops F height (suc left) hand (suc (suc count)) rows E hard few low opens small spread enough good =
+good-built game drops F height zero hand rows E hard few low opens small spread good =
+    nothing-built F E rows drops game.hold height hand (eqb-true height 0 good) spread
+good-built game drops F height (suc left) hand rows E hard few low opens small spread good =
     let kind = some_passes (λ piece. takes game.hold (piece_code piece)
     (λ rest. list_any (λ q. is_below height q && is_good game (locked F q) (height - rows_removed F q) left rest) (reached_places game F piece)) hand) all_pieces good in
-    let way = taken-rest game.hold count (piece_code kind.0) hand (λ rest. list_any (λ q. is_below height q && is_good game (locked F q) (height - rows_removed F q) left rest) (reached_places game F kind.0)) kind.2 in
+    let way = taken-rest game.hold left (piece_code kind.0) hand (λ rest. list_any (λ q. is_below height q && is_good game (locked F q) (height - rows_removed F q) left rest) (reached_places game F kind.0)) kind.2 in
     let found = some_passes (λ q. is_below height q && is_good game (locked F q) (height - rows_removed F q) left way.0) (reached_places game F kind.0) way.1 in
     let q : Placement = found.0 in
     let parts = and_parts (is_below height q) (is_good game (locked F q) (height - rows_removed F q) left way.0) found.2 in
@@ -316,10 +308,10 @@ good-built game drops F height (suc left) hand (suc (suc count)) rows E hard few
     let place = (place-decides (table_of game.rules) F game.drop_mode q).0 kept.1 in
     let free = place-free (table_of game.rules) F game.drop_mode q place in
     let next = after F height E rows q few low small spread free parts.0 in
-    let later = good-built game drops (locked F q) (height - rows_removed F q) left way.0 (suc count) next.kept (difference E (sent_cells rows q)) hard
-    (omega arith) (locked-low F height q low parts.0 free) next.opens (less-small E (sent_cells rows q) small) next.spread (omega arith) parts.1 in
-    first-built E rows q drops game.hold (suc count) hand way.0 (lies F q height rows E (λ piece. 1) few small spread free parts.0 (omega arith))
-    (subst (λ p. IsRest (suc count) hand (piece_code p) way.0) of_kind way.2)
+    let later = good-built game drops (locked F q) (height - rows_removed F q) left way.0 next.kept (difference E (sent_cells rows q)) hard
+    (omega arith) (locked-low F height q low parts.0 free) next.opens (less-small E (sent_cells rows q) small) next.spread parts.1 in
+    first-built E rows q drops game.hold left hand way.0 (lies F q height rows E (λ piece. 1) few small spread free parts.0 (omega arith))
+    (subst (λ p. IsRest (suc left) hand (piece_code p) way.0) of_kind way.2)
     (fits F height rows E spread q free parts.0 drops opens (place-stands (table_of game.rules) F game.drop_mode q place)
     (λ must. let is = hard must in sky-clear F height q (omega arith) low.none (subst (λ (m : DropMode). IsPlace srs_table F m q) is.mode (subst (λ (T : Table). IsPlace T F game.drop_mode q) is.table place))))
     (subst (λ p. (goes_on : ℕ → Bool) → goes_on way.0 ≡ true → takes game.hold (piece_code p) goes_on hand ≡ true) of_kind way.3) later

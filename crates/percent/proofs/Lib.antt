@@ -16,3 +16,4 @@ mod FittingLemmas
 mod SpreadLemmas
 mod RestingLemmas
 mod BuiltLemmas
+mod ServedLemmas

@@ -149,7 +149,7 @@ good-listed game p q left rest rows counts E list small spread free below most a
     (λ other. enough q.piece other (left + 1) rest counts most) (good-left game p q left rest rows E spread free below good))))
 
 -- the same tilings by fewer pieces
-fewer-listed : (E : Field) (supply more : Supply) (list : List ListedTiling) → ((piece : Piece) → supply piece ≤ more piece) → ListsAll E more list → ListsAll E supply list
+pub fewer-listed : (E : Field) (supply more : Supply) (list : List ListedTiling) → ((piece : Piece) → supply piece ≤ more piece) → ListsAll E more list → ListsAll E supply list
 fewer-listed E supply more list enough all = record {
   all = λ t. all.all (record { parts = t.parts; generalized = t.generalized; covered = t.covered; supplied = λ piece. omega (arith, t.supplied piece, enough piece) });
 }

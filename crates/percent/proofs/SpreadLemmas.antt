@@ -253,6 +253,18 @@ pub record Keeping (G : Field) (rows kept : List ℕ) (count y : ℕ) : Type 0 w
   pub each : (row : ℕ) → row < y → is_full G row ≡ false → get_or kept (row - full_below G row) 0 ≡ get_or rows row 0
   pub from : (k : ℕ) → k < count → ComesFrom G y k
 
+-- rows that are put so far are small
+pub zero_at : (k : ℕ) → k < 8 → get_or {A = ℕ} (0 ∷ 0 ∷ 0 ∷ 0 ∷ 0 ∷ 0 ∷ 0 ∷ 0 ∷ []) k 0 < 8
+zero_at k low =
+    let zero : get_or {A = ℕ} (0 ∷ 0 ∷ 0 ∷ 0 ∷ 0 ∷ 0 ∷ 0 ∷ 0 ∷ []) k 0 ≡ 0 = eqb-true _ _ (agree_below_at (λ k. get_or {A = ℕ} (0 ∷ 0 ∷ 0 ∷ 0 ∷ 0 ∷ 0 ∷ 0 ∷ 0 ∷ []) k 0 == 0) (λ k. true) 8 k refl low) in
+    omega (arith, zero)
+
+pub small_set : (kept : List ℕ) (count row : ℕ) → count < length kept → row < 8 → ((k : ℕ) → k < 8 → get_or kept k 0 < 8) → (k : ℕ) → k < 8 → get_or (list_set kept count row) k 0 < 8
+small_set kept count row within small each k low = elim (cases_eq k count) [
+  | inl same ↦ let put = get_or-set_at kept count k row 0 same within in omega (arith, put)
+  | inr apart ↦ let put = get_or-set_other kept count k row 0 apart in let old = each k low in omega (arith, put)
+]
+
 pub keeping-starts : (G : Field) (rows kept : List ℕ) → length kept ≡ 8 → Keeping G rows kept 0 0
 unfolding full_below
 keeping-starts G rows kept size = search rules

@@ -1,19 +1,12 @@
--- Build orders: pieces that are put into a set of empty cells one after the other, each fitting when its turn comes.
-use Rattle.std.specs.Prelude.{◌≡◌, ℕ, ◌<◌, Bool, true, false, List, [], ◌∷◌, map}
+-- Pieces that are put into a set of empty cells one after the other. The rows of the set are those of the field before
+-- the first of them: a row that has been filled since is gone, and what lay above it came down.
+use Rattle.std.specs.Prelude.{◌≡◌, ◌+◌, ℕ, ◌<◌, Bool, true, false, List, All, [], ◌∷◌, slice_index}
 use Rattle.lane_board.specs.Field.{Field, difference}
-use Rattle.lane_board.specs.FullRows.{is_full}
-use Rattle.srs.specs.declared.piece.Piece.{Piece}
-use Rattle.srs.specs.Kick.{srs_table}
+use Rattle.lane_board.specs.Lanes.{has_bit}
 use Rattle.srs.specs.Piece.{piece_code}
-use Rattle.srs.specs.Rules.{table_of}
-use Rattle.moves.specs.declared.key.DropMode.TheVariants.{Hard}
-use Rattle.hold_queue.specs.declared.hold.Hold.{Hold}
-use Rattle.prune.specs.Tiling.{Part, Tiling}
-use Rattle.empty_cells.specs.Empties.{all_but}
-use Rattle.tiled_pieces.specs.TilingLists.{LaidPiece, laid_part}
-use Rattle.percent.specs.declared.game.Game.{Game}
-use Rattle.percent.specs.Fitting.{supply_at}
-use Rattle.percent.specs.Hands.{takes}
+use Rattle.empty_cells.specs.Spans.{HasNoCell}
+use Rattle.tiled_pieces.specs.declared.listed.ListedTiling.{ListedTiling}
+use Rattle.tiled_pieces.specs.TilingLists.{HasPiece, LaidPiece}
 
 -- the set has no cell in a row
 abbrev pub IsGone : Field → ℕ → Type 0
@@ -44,23 +37,27 @@ unfoldable pub AreBuilt : Field → Bool → List LaidPiece → Type 0
 AreBuilt E drops [] = Unit {0}
 AreBuilt E drops (laid ∷ more) = Fits E drops laid × AreBuilt (difference E laid.cells) drops more
 
--- the kinds of these pieces can be taken from the hand one after the other
-unfoldable pub takes_all : Hold → ℕ → List Piece → Bool
-takes_all hold hand [] = true
-takes_all hold hand (piece ∷ more) = takes hold (piece_code piece) (λ rest. takes_all hold rest more) hand
+-- what pieces leave of a set
+unfoldable pub left_by : Field → List LaidPiece → Field
+left_by E [] = E
+left_by E (laid ∷ more) = left_by (difference E laid.cells) more
 
--- Some tiling of the set by the first so many pieces of the hand has its parts put into the set one after the other,
--- in an order in which the hand permits their kinds.
-pub record IsBuiltBy (E : Field) (drops : Bool) (hold : Hold) (count hand : ℕ) : Type 0 where
-  pub tiling : Tiling (all_but E) 8 (supply_at count hand)
-  pub built : AreBuilt E drops (map laid_part tiling.parts)
-  pub taken : takes_all hold hand (map (λ (part : Part). part.piece) tiling.parts) ≡ true
+-- the number with the weight of a piece's kind
+unfoldable pub with_weight : List ℕ → ℕ → LaidPiece → ℕ
+with_weight weights number laid = number + slice_index weights (piece_code laid.piece)
 
--- no row below the height is full
-pub record HasOpenRows (F : Field) (height : ℕ) : Type 0 where
-  pub each : (y : ℕ) → y < height → is_full F y ≡ false
+-- After each piece in turn the bit is set in what is allowed at the number so far, which is the sum of the weights of
+-- the kinds.
+unfoldable pub AreAllowed : List ℕ → List ℕ → ℕ → ℕ → List LaidPiece → Type 0
+AreAllowed weights allowed bit number [] = Unit {0}
+AreAllowed weights allowed bit number (laid ∷ more) =
+    (has_bit (slice_index allowed (with_weight weights number laid)) bit ≡ true)
+    × AreAllowed weights allowed bit (with_weight weights number laid) more
 
--- hard drop by the Super Rotation System, where nothing lies above a placement
-pub record IsHardSrs (game : Game) : Type 0 where
-  pub mode : game.drop_mode ≡ Hard
-  pub table : table_of game.rules ≡ srs_table
+-- Some pieces of a tiling use up a set in an order in which they can be put into it, and in which they are allowed.
+pub record IsServed (tiling : ListedTiling) (E : Field) (drops : Bool) (weights allowed : List ℕ) (bit : ℕ) : Type 0 where
+  pub order : List LaidPiece
+  pub pieces : All (HasPiece tiling) order
+  pub built : AreBuilt E drops order
+  pub uses_up : HasNoCell (left_by E order)
+  pub permitted : AreAllowed weights allowed bit 0 order

@@ -13,3 +13,4 @@ pub mod Marks
 pub mod Wanted
 pub mod Standing
 pub mod BuildOrders
+pub mod BuiltHands

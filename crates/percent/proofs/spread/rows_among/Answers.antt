@@ -1,24 +1,9 @@
 -- A row is put behind the others, or isn't one of the set.
-use Rattle.std.proofs.Common.{◌≡◌, ◌<◌, ◌==◌, ℕ, true, List, [], ◌∷◌, length, length-set, get_or, refl, sym, ◌∙◌, inl, inr, arith}
-use Rattle.std.proofs.Common.{set as list_set}
-use Rattle.std.proofs.lemmas.Bool.{agree_below_at, cases_eq, eqb-true}
-use Rattle.std.proofs.lemmas.List.{get_or-set_other}
-use Rattle.std.proofs.lemmas.Grind.{get_or-set_at}
+use Rattle.std.proofs.Common.{◌<◌, length-set, get_or, refl, sym, ◌∙◌, arith}
 use Rattle.lane_board.specs.Lanes.{has_bit}
-use Rattle.percent.proofs.SpreadLemmas.{keeping-ends, keeping-more, keeping-pass, keeping-starts, not_full, row_full}
+use Rattle.percent.proofs.SpreadLemmas.{keeping-ends, keeping-more, keeping-pass, keeping-starts, not_full, row_full, small_set, zero_at}
 use Rattle.percent.proofs.spread.rows_among.Goals as goal
 use Rattle.percent.proofs.spread.rows_among.Goals.{then-has_row, else-has_row}
-
-zero_at : (k : ℕ) → k < 8 → get_or {A = ℕ} (0 ∷ 0 ∷ 0 ∷ 0 ∷ 0 ∷ 0 ∷ 0 ∷ 0 ∷ []) k 0 < 8
-zero_at k low =
-    let zero : get_or {A = ℕ} (0 ∷ 0 ∷ 0 ∷ 0 ∷ 0 ∷ 0 ∷ 0 ∷ 0 ∷ []) k 0 ≡ 0 = eqb-true _ _ (agree_below_at (λ k. get_or {A = ℕ} (0 ∷ 0 ∷ 0 ∷ 0 ∷ 0 ∷ 0 ∷ 0 ∷ 0 ∷ []) k 0 == 0) (λ k. true) 8 k refl low) in
-    omega (arith, zero)
-
-small_set : (kept : List ℕ) (count row : ℕ) → count < length kept → row < 8 → ((k : ℕ) → k < 8 → get_or kept k 0 < 8) → (k : ℕ) → k < 8 → get_or (list_set kept count row) k 0 < 8
-small_set kept count row within small each k low = elim (cases_eq k count) [
-  | inl same ↦ let put = get_or-set_at kept count k row 0 same within in omega (arith, put)
-  | inr apart ↦ let put = get_or-set_other kept count k row 0 apart in let old = each k low in omega (arith, put)
-]
 
 pub loop-y-init : goal.loop-y-init
 loop-y-init c = record {

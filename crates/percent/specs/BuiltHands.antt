@@ -1,0 +1,65 @@
+-- Hands that permit the pieces of a tiling to be put in place in some order.
+use Rattle.std.specs.Prelude.{◌≡◌, ℕ, zero, suc, ◌+◌, ◌/◌, ◌%◌, ◌<◌, ◌≤◌, Bool, true, false, List, [], ◌∷◌, length, map, slice_index}
+use Rattle.lane_board.specs.Field.{Field}
+use Rattle.lane_board.specs.FullRows.{is_full}
+use Rattle.lane_board.specs.Lanes.{has_bit}
+use Rattle.srs.specs.declared.piece.Piece.{Piece}
+use Rattle.srs.specs.Kick.{srs_table}
+use Rattle.srs.specs.Piece.{piece_code}
+use Rattle.srs.specs.Rules.{table_of}
+use Rattle.moves.specs.declared.key.DropMode.TheVariants.{Hard}
+use Rattle.hold_queue.specs.declared.hold.Hold.{Hold}
+use Rattle.prune.specs.Tiling.{Part, Tiling}
+use Rattle.empty_cells.specs.Empties.{all_but}
+use Rattle.empty_cells.specs.Spans.{HasNoCell}
+use Rattle.tiled_pieces.specs.TilingLists.{laid_part}
+use Rattle.percent.specs.declared.game.Game.{Game}
+use Rattle.percent.specs.BuildOrders.{AreBuilt, left_by}
+use Rattle.percent.specs.Fitting.{supply_at}
+use Rattle.percent.specs.Hands.{takes}
+
+-- the kinds of these pieces can be taken from the hand one after the other
+unfoldable pub takes_all : Hold → ℕ → List Piece → Bool
+takes_all hold hand [] = true
+takes_all hold hand (piece ∷ more) = takes hold (piece_code piece) (λ rest. takes_all hold rest more) hand
+
+-- Some tiling of the set by pieces of a hand has so many parts, and they can be put into the set one after the other,
+-- in an order in which the hand permits their kinds.
+pub record IsBuiltBy (E : Field) (drops : Bool) (hold : Hold) (left hand : ℕ) : Type 0 where
+  pub tiling : Tiling (all_but E) 8 (supply_at (suc left) hand)
+  pub size : length tiling.parts ≡ left
+  pub built : AreBuilt E drops (map laid_part tiling.parts)
+  pub uses_up : HasNoCell (left_by E (map laid_part tiling.parts))
+  pub taken : takes_all hold hand (map (λ (part : Part). part.piece) tiling.parts) ≡ true
+
+-- no row below the height is full
+pub record HasOpenRows (F : Field) (height : ℕ) : Type 0 where
+  pub each : (y : ℕ) → y < height → is_full F y ≡ false
+
+-- hard drop by the Super Rotation System, where nothing lies above a placement
+pub record IsHardSrs (game : Game) : Type 0 where
+  pub mode : game.drop_mode ≡ Hard
+  pub table : table_of game.rules ≡ srs_table
+
+-- ---- the weights of kinds
+
+-- the sum of the weights of kinds
+unfoldable pub weight_of : List ℕ → List Piece → ℕ
+weight_of weights [] = 0
+weight_of weights (piece ∷ more) = slice_index weights (piece_code piece) + weight_of weights more
+
+-- The bit is set in what is allowed at the sum of the weights of any pieces, at most so many, that can be taken from the
+-- hand.
+pub record AllowsTaken (hold : Hold) (left hand : ℕ) (weights allowed : List ℕ) (bit : ℕ) : Type 0 where
+  pub each : (pieces : List Piece) → 0 < length pieces → length pieces ≤ left → takes_all hold hand pieces ≡ true
+      → has_bit (slice_index allowed (weight_of weights pieces)) bit ≡ true
+
+-- the code of the piece at an index of a hand
+unfoldable pub code_at : ℕ → ℕ → ℕ
+code_at hand zero = hand % 8
+code_at hand (suc i) = code_at (hand / 8) i
+
+-- the sum of the weights of the first so many pieces of a hand
+unfoldable pub first_weights : List ℕ → ℕ → ℕ → ℕ
+first_weights weights zero hand = 0
+first_weights weights (suc count) hand = slice_index weights (hand % 8) + first_weights weights count (hand / 8)
