@@ -3,7 +3,8 @@ use Rattle.std.proofs.Common.{◌≡◌, ℕ, zero, suc, ◌+◌, ◌-◌, ◌<�
 use Rattle.std.proofs.Common.{set as list_set}
 use Rattle.std.proofs.Math.Path.{fun_ext}
 use Rattle.std.specs.List.{list_any}
-use Rattle.std.proofs.lemmas.Bool.{and_from, and_parts, and_right, both_ways, cases_Bool, cases_eq, cases_order, cond-false, eqb-true, false≢true, false_from_ne_true, not-true, not_from_false, not_from_true, true_from_ne_false}
+use Rattle.std.specs.Prelude.{Contains, None, Some, find}
+use Rattle.std.proofs.lemmas.Bool.{and_from, and_parts, and_right, both_ways, cases_Bool, cases_eq, cases_order, cond-false, eqb-true, false≢true, false_from_ne_true, ltb-true, not-true, not_from_false, not_from_true, true_from_ne_false}
 use Rattle.std.proofs.lemmas.List.Elements.{All-nil}
 use Rattle.lane_board.specs.Field.{Field, difference, rows_below}
 use Rattle.lane_board.specs.FullRows.{is_full}
@@ -14,8 +15,9 @@ use Rattle.srs.specs.Piece.{all_pieces, piece_code}
 use Rattle.srs.specs.Placements.{placements_of}
 use Rattle.srs.specs.Rules.{table_of}
 use Rattle.srs.specs.SameCells.{is_among}
-use Rattle.srs.proofs.CallerLemmas.{Contains-from_filter, placements_of-list, some_passes}
+use Rattle.srs.proofs.CallerLemmas.{Contains-cases, Contains-from_filter, Contains-none, Contains-range, find-false, find-true, placements_of-list, some_passes}
 use Rattle.well.specs.Free.{is_free}
+use Rattle.well.specs.Counts.{lowest_full, rows}
 use Rattle.well.specs.Lock.{locked, rows_removed, together}
 use Rattle.well.specs.LockLaws.{LiesBelow, is_below}
 use Rattle.moves.specs.declared.key.DropMode.{DropMode}
@@ -43,7 +45,7 @@ use Rattle.percent.specs.Hands.{takes}
 use Rattle.percent.specs.Spread.{IsSpread, is_row_of}
 use Rattle.percent.proofs.MarkLemmas.{laid, laid-sent, left-sent, lies, sent_part}
 use Rattle.percent.proofs.RestingLemmas.{InRow, StandsOn, place-stands, row_between, sky-clear}
-use Rattle.percent.proofs.SpreadLemmas.{IsRowOf, Keeping, NearCell, keeping-ends, keeping-more, keeping-pass, keeping-starts, near, opens-after, row_of, sent_here, small_set, spread-after, zero_at}
+use Rattle.percent.proofs.SpreadLemmas.{IsRowOf, Keeping, NearCell, keeping-ends, keeping-more, keeping-pass, keeping-starts, near, opens-after, row_of, sent_here, small_set, spread-after, spread-own, zero_at}
 use Rattle.percent.proofs.TiledLemmas.{IsRest, rest-supplied, taken-rest}
 
 -- a row that has all its cells is full
@@ -213,6 +215,34 @@ after F height E rows q few low small spread free below =
       opens = record { each = opens-after F height rows old.kept E q few lies spread free below keeps old.within small.column };
     }
 
+-- a field as it is, in its own rows
+own-small : (F : Field) (height : ℕ) → height ≤ 8 → IsSmall 8 (difference (rows_below height) F)
+unfolding difference rows_below
+own-small F height few = record {
+  column = λ a b here. ltb-true a 10 (and_parts (nat_lt a 10) (nat_lt b height) (and_parts (nat_lt a 10 && nat_lt b height) (not (F a b)) here).0).0;
+  row = λ a b here. let low = ltb-true b height (and_parts (nat_lt a 10) (nat_lt b height) (and_parts (nat_lt a 10 && nat_lt b height) (not (F a b)) here).0).1 in omega arith;
+}
+
+-- no row is full after a placement
+pub locked-open : (F : Field) (height : ℕ) (q : Placement) → height ≤ 8 → LiesBelow F height → is_free F q ≡ true → is_below height q ≡ true → HasOpenRows (locked F q) (height - rows_removed F q)
+locked-open F height q few lies free below =
+    (after F height (difference (rows_below height) F) _ q few (record { none = lies.none; within = omega arith }) (own-small F height few) (spread-own F (difference (rows_below height) F) height few refl) free below).opens
+
+-- nor is one where none of the well is
+unfull : (F : Field) (ys : List ℕ) → find (λ y. is_full F y) ys ≡ None → (y : ℕ) → Contains ys y → is_full F y ≡ false
+unfull F [] none y among = absurd (Contains-none y among)
+unfull F (z ∷ ys) none y among = elim (cases_Bool (is_full F z)) [
+  | inl full ↦ let found : Some z ≡ None = sym (find-true (λ y. is_full F y) z ys full) ∙ none in cc
+  | inr stays ↦ elim (Contains-cases z ys y among) [
+    | inl here ↦ subst (λ y. is_full F y ≡ false) here stays
+    | inr there ↦ unfull F ys (sym (find-false (λ y. is_full F y) z ys stays) ∙ none) y there
+  ]
+]
+
+pub none-full : (F : Field) (height : ℕ) → height ≤ 8 → lowest_full F ≡ None → HasOpenRows F height
+unfolding lowest_full
+none-full F height few none = record { each = λ y low. unfull F rows none y (Contains-range 0 23 y (omega arith) (omega arith)) }
+
 -- ---- the law
 
 less-small : (E cells : Field) → IsSmall 8 E → IsSmall 8 (difference E cells)
@@ -315,3 +345,10 @@ good-built game drops F height (suc left) hand rows E hard few low opens small s
     (fits F height rows E spread q free parts.0 drops opens (place-stands (table_of game.rules) F game.drop_mode q place)
     (λ must. let is = hard must in sky-clear F height q (omega arith) low.none (subst (λ (m : DropMode). IsPlace srs_table F m q) is.mode (subst (λ (T : Table). IsPlace T F game.drop_mode q) is.table place))))
     (subst (λ p. (goes_on : ℕ → Bool) → goes_on way.0 ≡ true → takes game.hold (piece_code p) goes_on hand ≡ true) of_kind way.3) later
+
+-- so it does in the rows of its own field
+pub good-own : (game : Game) (drops : Bool) (F : Field) (height left hand : ℕ) → (drops ≡ true → IsHardSrs game) → height ≤ 8 → LiesBelow F height → HasOpenRows F height
+    → is_good game F height left hand ≡ true → IsBuiltBy (difference (rows_below height) F) drops game.hold left hand
+good-own game drops F height left hand hard few lies opens good =
+    good-built game drops F height left hand _ (difference (rows_below height) F) hard few (record { none = lies.none; within = omega arith }) opens (own-small F height few)
+    (spread-own F (difference (rows_below height) F) height few refl) good

@@ -1,7 +1,7 @@
 -- A good hand is served by some listed tiling: its pieces use up the cells in an order that the hand permits.
-use Rattle.std.proofs.Common.{◌≡◌, ℕ, zero, suc, ◌+◌, ◌/◌, ◌%◌, ◌*◌, ◌≤◌, Bool, true, ◌&&◌, ◌==◌, List, [], ◌∷◌, ◌++◌, length, map, get_or, refl, ap, ◌∙◌, inl, inr, arith, append_assoc, length-append}
+use Rattle.std.proofs.Common.{◌≡◌, ℕ, zero, suc, ◌+◌, ◌/◌, ◌%◌, ◌*◌, ◌<◌, ◌≤◌, Bool, true, false, ◌&&◌, ◌==◌, List, [], ◌∷◌, ◌++◌, length, map, get_or, refl, sym, ap, subst, ◌∙◌, inl, inr, arith, append_assoc, length-append}
 use Rattle.std.specs.Prelude.{All, Contains}
-use Rattle.std.proofs.lemmas.Bool.{and_from, and_parts, eqb-true, false≢true, or_left, or_right}
+use Rattle.std.proofs.lemmas.Bool.{and_from, and_parts, eqb-true, false≢true, false_from_ne_true, or_left, or_right}
 use Rattle.std.proofs.lemmas.List.{length-map}
 use Rattle.std.proofs.lemmas.List.Elements.{All-cons, All-head, All-nil, All-tail}
 use Rattle.lane_board.specs.Field.{Field}
@@ -14,8 +14,21 @@ use Rattle.prune.specs.Tiling.{Part, Supply}
 use Rattle.tiled_pieces.specs.declared.listed.ListedTiling.{ListedTiling}
 use Rattle.tiled_pieces.specs.TilingLists.{HasPiece, LaidPiece, ListsAll, laid_part}
 use Rattle.percent.specs.BuildOrders.{AreAllowed, IsServed, with_weight}
-use Rattle.percent.specs.BuiltHands.{AllowsTaken, IsBuiltBy, code_at, first_weights, takes_all, weight_of}
-use Rattle.percent.specs.Fitting.{supply_at}
+use Rattle.percent.specs.BuiltHands.{AllowsTaken, HasOpenRows, IsBuiltBy, IsHardSrs, code_at, first_weights, takes_all, weight_of}
+use Rattle.percent.specs.declared.game.Game.{Game}
+use Rattle.percent.specs.declared.marks.Mark.{Mark}
+use Rattle.percent.specs.declared.position.Position.{Position}
+use Rattle.percent.specs.Fitting.{codes_in, supply_at, supply_by}
+use Rattle.percent.specs.GoodHands.{is_good}
+use Rattle.percent.specs.Marks.{IsTrueMark}
+use Rattle.percent.specs.Spread.{IsSpread}
+use Rattle.percent.proofs.BuiltLemmas.{good-built}
+use Rattle.percent.proofs.FittingLemmas.{low-position}
+use Rattle.well.specs.Well.{filled}
+use Rattle.empty_cells.specs.declared.empties.Empties.{Empties}
+use Rattle.empty_cells.specs.Empties.{empty_cells}
+use Rattle.empty_cells.proofs.CallerLemmas.{cells_small}
+use Rattle.srs.proofs.CallerLemmas.{piece_code-small}
 use Rattle.percent.specs.Hands.{allows_hold, takes, without_first, without_second}
 use Rattle.percent.proofs.MarkLemmas.{fewer-listed}
 use Rattle.percent.proofs.TestLemmas.{or_cases}
@@ -157,3 +170,37 @@ weight-allowed weights hand (piece ∷ pieces) taken = elim (or_cases (hand % 8 
       low = omega arith;
       sum = omega (arith, same, sum, ap (λ code. get_or weights code 0) low, ap (first_weights weights (length pieces)) high, ap (λ rest. get_or weights (code_at rest index) 0) high);
     }
+
+-- so it is enough that these sums are allowed
+pub allows-first : (left hand : ℕ) (weights allowed : List ℕ) (bit : ℕ) → ((count : ℕ) → 0 < count → count ≤ left → has_bit (get_or allowed (first_weights weights count hand) 0) bit ≡ true)
+    → AllowsTaken Avoided left hand weights allowed bit
+allows-first left hand weights allowed bit set = record {
+  each = λ pieces some few taken. ap (λ n. has_bit (get_or allowed n 0) bit) (weight-avoided weights hand pieces taken) ∙ set (length pieces) some few;
+}
+
+pub allows-but-one : (left hand : ℕ) (weights allowed : List ℕ) (bit : ℕ)
+    → ((count index weight : ℕ) → 0 < count → count ≤ left → index ≤ count → weight + get_or weights (code_at hand index) 0 ≡ first_weights weights (suc count) hand → has_bit (get_or allowed weight 0) bit ≡ true)
+    → AllowsTaken Allowed left hand weights allowed bit
+allows-but-one left hand weights allowed bit set = record {
+  each = λ pieces some few taken.
+      let one = weight-allowed weights hand pieces taken in
+      set (length pieces) one.index (weight_of weights pieces) some few one.low one.sum;
+}
+
+-- ---- hands that are not served
+
+-- a hand of which no listed tiling is served is not good
+pub unserved-bad : (game : Game) (drops : Bool) (p : Position) (left hand bit : ℕ) (rows weights allowed : List ℕ) (cells : Empties) (mark : Mark) → (drops ≡ true → IsHardSrs game)
+    → HasOpenRows (filled p.well) p.rows → IsSpread (filled p.well) p.rows rows (empty_cells cells)
+    → ((code : ℕ) → code < 8 → codes_in (left + 1) hand code ≤ get_or mark.counts code 0) → IsTrueMark (empty_cells cells) mark
+    → AllowsTaken game.hold left hand weights allowed bit
+    → ((tiling : ListedTiling) → Contains mark.tilings.tilings.items tiling → IsServed tiling (empty_cells cells) drops weights allowed bit → ⊥)
+    → is_good game (filled p.well) p.rows left hand ≡ false
+unfolding supply_at supply_by
+unserved-bad game drops p left hand bit rows weights allowed cells mark hard opens spread most is allows none = false_from_ne_true _ (λ good. is.each (λ lists.
+    let built = good-built game drops (filled p.well) p.rows left hand rows (empty_cells cells) hard p.few (low-position p) opens (cells_small cells) spread good in
+    let one : suc left ≡ left + 1 = omega arith in
+    let enough : (piece : Piece) → codes_in (suc left) hand (piece_code piece) ≤ get_or mark.counts (piece_code piece) 0 =
+    λ piece. subst (λ n. codes_in n hand (piece_code piece) ≤ get_or mark.counts (piece_code piece) 0) (sym one) (most (piece_code piece) (let code = piece_code-small piece in omega arith)) in
+    let serves = built-served (empty_cells cells) drops game.hold left hand (supply_by mark.counts) mark.tilings.tilings.items weights allowed bit enough lists allows built in
+    none serves.tiling serves.listed serves.served))
