@@ -14,7 +14,7 @@ use Rattle.prune.specs.Tiling.{Part, Supply}
 use Rattle.tiled_pieces.specs.declared.listed.ListedTiling.{ListedTiling}
 use Rattle.tiled_pieces.specs.TilingLists.{HasPiece, LaidPiece, ListsAll, laid_part}
 use Rattle.percent.specs.BuildOrders.{AreAllowed, IsServed, with_weight}
-use Rattle.percent.specs.BuiltHands.{AllowsTaken, HasOpenRows, IsBuiltBy, IsHardSrs, code_at, first_weights, takes_all, weight_of}
+use Rattle.percent.specs.BuiltHands.{AllowsTaken, IsBuiltBy, IsHardSrs, code_at, first_weights, takes_all, weight_of}
 use Rattle.percent.specs.declared.game.Game.{Game}
 use Rattle.percent.specs.declared.marks.Mark.{Mark}
 use Rattle.percent.specs.declared.position.Position.{Position}
@@ -191,14 +191,14 @@ allows-but-one left hand weights allowed bit set = record {
 
 -- a hand of which no listed tiling is served is not good
 pub unserved-bad : (game : Game) (drops : Bool) (p : Position) (left hand bit : ℕ) (rows weights allowed : List ℕ) (cells : Empties) (mark : Mark) → (drops ≡ true → IsHardSrs game)
-    → HasOpenRows (filled p.well) p.rows → IsSpread (filled p.well) p.rows rows (empty_cells cells)
+    → IsSpread (filled p.well) p.rows rows (empty_cells cells)
     → ((code : ℕ) → code < 8 → codes_in (left + 1) hand code ≤ get_or mark.counts code 0) → IsTrueMark (empty_cells cells) mark
     → AllowsTaken game.hold left hand weights allowed bit
     → ((tiling : ListedTiling) → Contains mark.tilings.tilings.items tiling → IsServed tiling (empty_cells cells) drops weights allowed bit → ⊥)
     → is_good game (filled p.well) p.rows left hand ≡ false
 unfolding supply_at supply_by
-unserved-bad game drops p left hand bit rows weights allowed cells mark hard opens spread most is allows none = false_from_ne_true _ (λ good. is.each (λ lists.
-    let built = good-built game drops (filled p.well) p.rows left hand rows (empty_cells cells) hard p.few (low-position p) opens (cells_small cells) spread good in
+unserved-bad game drops p left hand bit rows weights allowed cells mark hard spread most is allows none = false_from_ne_true _ (λ good. is.each (λ lists.
+    let built = good-built game drops (filled p.well) p.rows left hand rows (empty_cells cells) hard p.few (low-position p) p.open_rows (cells_small cells) spread good in
     let one : suc left ≡ left + 1 = omega arith in
     let enough : (piece : Piece) → codes_in (suc left) hand (piece_code piece) ≤ get_or mark.counts (piece_code piece) 0 =
     λ piece. subst (λ n. codes_in n hand (piece_code piece) ≤ get_or mark.counts (piece_code piece) 0) (sym one) (most (piece_code piece) (let code = piece_code-small piece in omega arith)) in

@@ -2,12 +2,13 @@
 ghost use Rattle.std.specs.Prelude.{◌≤◌};
 ghost use Rattle.well.specs.Well.{filled};
 ghost use Rattle.well.specs.LockLaws.{LiesBelow};
+ghost use Rattle.percent.specs.BuiltHands.{HasOpenRows};
 
 use crate::order::roughness;
 use srs::Placement;
 use well::Well;
 
-/// A well, and how many of its rows are left to be removed. All its cells lie in these rows.
+/// A well, and how many of its rows are left to be removed. All its cells lie in these rows, and none of them is full.
 #[derive(Clone, Copy)]
 pub struct Position {
     pub well: Well,
@@ -17,6 +18,7 @@ pub struct Position {
     pub near: u8,
     ghost few: { rows ≤ 8 },
     ghost below: { LiesBelow (filled well) rows },
+    ghost open_rows: { HasOpenRows (filled well) rows },
 }
 
 /// A placement, and the position after it.

@@ -1,6 +1,8 @@
--- The cells of a fit problem lie below its height.
+-- The cells of a fit problem lie below its height, and no row is full.
 use Rattle.std.proofs.Common.{arith}
+use Rattle.well.specs.Well.{filled}
 use Rattle.problem.proofs.CallerLemmas.{filled-low}
+use Rattle.percent.proofs.BuiltLemmas.{none-full}
 use Rattle.percent.proofs.start.first_position.Goals as goal
 
 pub invariant_of-result : goal.invariant_of-result
@@ -9,4 +11,5 @@ invariant_of-result c =
     let low = filled-low c.args.problem.now.well c.args.problem.now.height (omega (arith, fit.low)) fit.below in record {
       few = fit.low;
       below = record { none = low.none };
+      open_rows = none-full (filled c.args.problem.now.well) c.args.problem.now.height fit.low fit.open_rows;
     }
