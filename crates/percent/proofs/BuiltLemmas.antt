@@ -38,10 +38,11 @@ use Rattle.tiled_pieces.specs.TilingLists.{LaidPiece, laid_part}
 use Rattle.tiled_pieces.proofs.CallerLemmas.{LiesIn, left_by_part}
 use Rattle.percent.specs.declared.game.Game.{Game}
 use Rattle.percent.specs.BuildOrders.{AreBuilt, Fits, IsGone, Rests, left_by}
-use Rattle.percent.specs.BuiltHands.{HasOpenRows, IsBuiltBy, IsHardSrs, takes_all}
+use Rattle.percent.specs.BuiltHands.{IsBuiltBy, IsHardSrs, takes_all}
 use Rattle.percent.specs.Fitting.{supply_at}
 use Rattle.percent.specs.GoodHands.{is_good, reached_places}
 use Rattle.percent.specs.Hands.{takes}
+use Rattle.percent.specs.OpenRows.{HasOpenRows}
 use Rattle.percent.specs.Spread.{IsSpread, is_row_of}
 use Rattle.percent.proofs.MarkLemmas.{laid, laid-sent, left-sent, lies, sent_part}
 use Rattle.percent.proofs.RestingLemmas.{InRow, StandsOn, place-stands, row_between, sky-clear}

@@ -1,7 +1,6 @@
 -- Hands that permit the pieces of a tiling to be put in place in some order.
-use Rattle.std.specs.Prelude.{◌≡◌, ℕ, zero, suc, ◌+◌, ◌/◌, ◌%◌, ◌<◌, ◌≤◌, Bool, true, false, List, [], ◌∷◌, length, map, slice_index}
+use Rattle.std.specs.Prelude.{◌≡◌, ℕ, zero, suc, ◌+◌, ◌/◌, ◌%◌, ◌<◌, ◌≤◌, Bool, true, List, [], ◌∷◌, length, map, slice_index}
 use Rattle.lane_board.specs.Field.{Field}
-use Rattle.lane_board.specs.FullRows.{is_full}
 use Rattle.lane_board.specs.Lanes.{has_bit}
 use Rattle.srs.specs.declared.piece.Piece.{Piece}
 use Rattle.srs.specs.Kick.{srs_table}
@@ -32,10 +31,6 @@ pub record IsBuiltBy (E : Field) (drops : Bool) (hold : Hold) (left hand : ℕ) 
   pub uses_up : HasNoCell (left_by E (map laid_part tiling.parts))
   pub taken : takes_all hold hand (map (λ (part : Part). part.piece) tiling.parts) ≡ true
 
--- no row below the height is full
-pub record HasOpenRows (F : Field) (height : ℕ) : Type 0 where
-  pub each : (y : ℕ) → y < height → is_full F y ≡ false
-
 -- hard drop by the Super Rotation System, where nothing lies above a placement
 pub record IsHardSrs (game : Game) : Type 0 where
   pub mode : game.drop_mode ≡ Hard
@@ -48,8 +43,8 @@ unfoldable pub weight_of : List ℕ → List Piece → ℕ
 weight_of weights [] = 0
 weight_of weights (piece ∷ more) = slice_index weights (piece_code piece) + weight_of weights more
 
--- The bit is set in what is allowed at the sum of the weights of any pieces, at most so many, that can be taken from the
--- hand.
+-- The bit is set in what is allowed at the sum of the weights of any pieces, at most so many, that can be taken from
+-- the hand.
 pub record AllowsTaken (hold : Hold) (left hand : ℕ) (weights allowed : List ℕ) (bit : ℕ) : Type 0 where
   pub each : (pieces : List Piece) → 0 < length pieces → length pieces ≤ left → takes_all hold hand pieces ≡ true
       → has_bit (slice_index allowed (weight_of weights pieces)) bit ≡ true

@@ -12,5 +12,6 @@ pub mod Spread
 pub mod Marks
 pub mod Wanted
 pub mod Standing
+pub mod OpenRows
 pub mod BuildOrders
 pub mod BuiltHands

@@ -6,9 +6,10 @@ ghost use Rattle.well.specs.LockLaws.{LiesBelow};
 ghost use Rattle.problem.specs.declared.problem.Problem.{Problem};
 ghost use Rattle.problem.specs.Problem.{IsFit};
 ghost use Rattle.percent.specs.declared.game.Game.{Game};
-ghost use Rattle.percent.specs.BuiltHands.{HasOpenRows, IsBuiltBy, IsHardSrs};
+ghost use Rattle.percent.specs.BuiltHands.{IsBuiltBy, IsHardSrs};
 ghost use Rattle.percent.specs.Good.{Good};
 ghost use Rattle.percent.specs.GoodHands.{is_good, is_good_queue};
+ghost use Rattle.percent.specs.OpenRows.{HasOpenRows};
 
 /// A test decides whether a queue is good.
 pub fn good_is_decided()

@@ -2,7 +2,7 @@
 ghost use Rattle.std.specs.Prelude.{◌≤◌};
 ghost use Rattle.well.specs.Well.{filled};
 ghost use Rattle.well.specs.LockLaws.{LiesBelow};
-ghost use Rattle.percent.specs.BuiltHands.{HasOpenRows};
+ghost use Rattle.percent.specs.OpenRows.{HasOpenRows};
 
 use crate::order::roughness;
 use srs::Placement;
