@@ -3,6 +3,9 @@ pub mod Good
 pub mod Answers
 -- What contracts cite beside these: views of values, and readings and tests, each with its law
 pub mod GoodHands
+pub mod OpenRows
+pub mod BuildOrders
+pub mod BuiltHands
 -- What serves proofs alone
 pub mod Hands
 pub mod Kept
@@ -12,6 +15,3 @@ pub mod Spread
 pub mod Marks
 pub mod Wanted
 pub mod Standing
-pub mod OpenRows
-pub mod BuildOrders
-pub mod BuiltHands
