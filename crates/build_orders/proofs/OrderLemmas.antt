@@ -33,7 +33,7 @@ module _ (tiling : ListedTiling) (weights allowed : List ℕ) (bit : ℕ) (drops
   -- pieces of the tiling use up a set, from a number on
   pub record Serves (F : Field) (number : ℕ) : Type 0 where
     pub order : List LaidPiece
-    pub pieces : All (HasPiece tiling) order
+    pub each : All (HasPiece tiling) order
     pub built : AreBuilt F drops order
     pub uses_up : HasNoCell (left_by F order)
     pub permitted : AreAllowed weights allowed bit number order
@@ -58,9 +58,9 @@ module _ (tiling : ListedTiling) (weights allowed : List ℕ) (bit : ℕ) (drops
   unfolding UsesUp AreBuilt left_by AreAllowed with_weight
   to_indexes [] F number within has built empty permitted = ([], empty)
   to_indexes (laid ∷ more) F number within has built empty permitted =
-      let at = found laid has.0 F within built.0 in
+      let at = found laid (has 0 laid (omega arith)) F within built.0 in
       let sum : number + weight_at pieces at.index ≡ number + slice_index weights (piece_code laid.piece) = ap (λ w. number + w) at.here.weight in
-      let rest = to_indexes more (difference F laid.cells) (number + slice_index weights (piece_code laid.piece)) (within_less F laid.cells within) has.1 built.1 empty permitted.1 in
+      let rest = to_indexes more (difference F laid.cells) (number + slice_index weights (piece_code laid.piece)) (within_less F laid.cells within) (λ k d below. has (suc k) d (omega (arith, below))) built.1 empty permitted.1 in
       (at.index ∷ rest.0,
         (record {
           known = at.here.known;
@@ -70,9 +70,13 @@ module _ (tiling : ListedTiling) (weights allowed : List ℕ) (bit : ℕ) (drops
           subst (λ (G : Field). UsesUp pieces drops allowed bit (difference F G) (number + weight_at pieces at.index) rest.0) (sym at.here.cells)
           (subst (λ n. UsesUp pieces drops allowed bit (difference F laid.cells) n rest.0) (sym sum) rest.1)))
 
+  both : (laid : LaidPiece) (order : List LaidPiece) → HasPiece tiling laid → All (HasPiece tiling) order → All (HasPiece tiling) (laid ∷ order)
+  both laid order here others zero d below = here
+  both laid order here others (suc k) d below = others k d (omega (arith, below))
+
   from_indexes : (is : List ℕ) (F : Field) (number : ℕ) → UsesUp pieces drops allowed bit F number is → Serves F number
   unfolding UsesUp AreBuilt left_by AreAllowed with_weight
-  from_indexes [] F number empty = record { order = []; pieces = tt; built = tt; uses_up = empty; permitted = tt }
+  from_indexes [] F number empty = record { order = []; each = λ k d below. absurd (omega (arith, below)); built = tt; uses_up = empty; permitted = tt }
   from_indexes (i ∷ is) F number goes =
       let of = those.only i goes.0.known in
       let laid = laid_at tiling of.place in
@@ -82,7 +86,7 @@ module _ (tiling : ListedTiling) (weights allowed : List ℕ) (bit : ℕ) (drops
         (subst (λ n. UsesUp pieces drops allowed bit (difference F (cells_at pieces i)) n is) sum goes.1)) in
       record {
         order = laid ∷ rest.order;
-        pieces = (record { index = of.place; known = of.low; there = refl }, rest.pieces);
+        each = both laid rest.order (record { index = of.place; known = of.low; there = refl }) rest.each;
         built = (fits_same F drops (record { piece = I; cells = cells_at pieces i }) laid of.here.cells goes.0.fits, rest.built);
         uses_up = rest.uses_up;
         permitted = (ap (λ n. has_bit (slice_index allowed n) bit) (sym sum) ∙ goes.0.permitted, rest.permitted);
@@ -91,7 +95,7 @@ module _ (tiling : ListedTiling) (weights allowed : List ℕ) (bit : ℕ) (drops
   pub served_both : HasOrder pieces drops allowed bit E ↔ IsServed tiling E drops weights allowed bit
   served_both = (
     (λ some. let serves = from_indexes some.order E 0 some.uses_up in
-      record { order = serves.order; pieces = serves.pieces; built = serves.built; uses_up = serves.uses_up; permitted = serves.permitted }),
+      record { order = serves.order; pieces = serves.each; built = serves.built; uses_up = serves.uses_up; permitted = serves.permitted }),
     (λ served. let indexes = to_indexes served.order E 0 (λ x y here. here) served.pieces served.built served.uses_up served.permitted in
       record { order = indexes.0; uses_up = indexes.1 }),
   )
