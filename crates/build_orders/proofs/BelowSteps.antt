@@ -38,7 +38,7 @@ above_more E (suc b) a x y =
     ∙ ap (λ p. p || (nat_lt (y + suc (b + a)) 8 && E x (y + suc (b + a)))) (above_more E b a x y)
     ∙ ap (λ k. (has_above E a x y || (nat_lt (y + a) 8 && has_above E b x (y + a))) || (nat_lt k 8 && E x k)) {x = y + suc (b + a)} {y = (y + a) + suc b} (omega arith)
     ∙ nearer (has_above E a x y) (nat_lt (y + a) 8) (has_above E b x (y + a)) (nat_lt ((y + a) + suc b) 8) (E x ((y + a) + suc b))
-      (λ within. lt-ltb (y + a) 8 (omega (arith, ltb-true _ _ within)))
+    (λ within. lt-ltb (y + a) 8 (omega (arith, ltb-true _ _ within)))
 
 -- a set of the cells that have one of another set in the next rows above them
 pub record IsBelow (n rows m : ℕ) : Type 0 where
@@ -62,6 +62,6 @@ twice_below n rows m moved is lowered = record {
   bits = λ x y column low.
       has_bit-or m moved (8 * x + y)
       ∙ ap₂ ◌||◌ (is.bits x y column low)
-        (lowered x y column low ∙ where_lower (nat_lt (y + rows) 8) _ _ (λ within. is.bits x (y + rows) column (ltb-true _ _ within)))
+      (lowered x y column low ∙ where_lower (nat_lt (y + rows) 8) _ _ (λ within. is.bits x (y + rows) column (ltb-true _ _ within)))
       ∙ sym (above_more (field_of n) rows rows x y);
 }

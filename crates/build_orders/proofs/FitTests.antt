@@ -1,7 +1,7 @@
 -- The four tests of bits by which a piece fits.
-use Rattle.std.proofs.Common.{◌≡◌, ℕ, ◌+◌, ◌*◌, ◌/◌, ◌%◌, ◌^◌, ◌<◌, ◌≤◌, Bool, true, false, not, ◌&&◌, ◌==◌, nat_lt, bit_and, refl, sym, ap, ap₂, ◌∙◌, inl, inr, arith, rules}
+use Rattle.std.proofs.Common.{◌≡◌, ℕ, ◌+◌, ◌*◌, ◌/◌, ◌%◌, ◌^◌, ◌<◌, ◌≤◌, Bool, true, false, not, ◌&&◌, ◌==◌, bit_and, refl, sym, ap, ◌∙◌, inl, inr, arith, rules}
 use Rattle.std.specs.Int.{trailing_zeros, w128}
-use Rattle.std.proofs.lemmas.Bool.{and_from, and_parts, both_ways, cases_Bool, cases_eq, cases_lt, false_from_ne_true, true_from_ne_false}
+use Rattle.std.proofs.lemmas.Bool.{and_from, and_parts, both_ways, cases_lt, false_from_ne_true}
 use Rattle.std.proofs.lemmas.Nat.{and_le_l}
 use Rattle.std.proofs.lemmas.Nat.Bits.{bit_at-trailing_zeros}
 use Rattle.lane_board.specs.Field.{Field}
@@ -10,8 +10,8 @@ use Rattle.lane_board.proofs.CallerLemmas.{has_bit-and, has_bit-past, has_bit-ze
 use Rattle.tiled_pieces.specs.TilingLists.{LaidPiece}
 use Rattle.build_orders.specs.Built.{Fits, IsGone, Rests}
 use Rattle.build_orders.specs.Words.{field_of, has_above, has_floor, has_row, is_between, is_filled}
-use Rattle.build_orders.proofs.RowTests.{Between, CellOf, between_has, between_some, cell_from, cell_of, gone_row, row_gone, row_has, row_some}
-use Rattle.build_orders.proofs.FloorTests.{Above, above_has, above_some, floor_from, floor_test}
+use Rattle.build_orders.proofs.RowTests.{between_has, between_some, cell_from, cell_of, gone_row, row_gone, row_has, row_some}
+use Rattle.build_orders.proofs.FloorTests.{above_has, above_some, floor_from, floor_test}
 
 pub none_set : (n : ℕ) → ((k : ℕ) → has_bit n k ≡ true → ⊥) → n ≡ 0
 none_set n none = same_from_columns n 0 (λ k. false_from_ne_true (has_bit n k) (none k) ∙ sym (has_bit-zero k))
@@ -90,7 +90,7 @@ module _ (e p : ℕ) (drops : Bool) (laid : LaidPiece) (is : laid.cells ≡ fiel
             let lower = row_some (field_of p) sides.y sides.lower in
             let upper = row_some (field_of p) sides.v sides.upper in
             let gone = fits.unbroken lower.0 sides.y upper.0 sides.v z (to_piece lower.0 sides.y lower.1) (to_piece upper.0 sides.v upper.1) sides.below sides.above
-                (λ x. of_piece x z ∙ row_gone p z small_p sides.none x) in
+            (λ x. of_piece x z ∙ row_gone p z small_p sides.none x) in
             both_ways _ (gone_row (field_of e) z gone) (sym (has z low) ∙ both.1)
         | inr high ↦ both_ways _ (has_bit-past gaps 8 z (omega (arith, few)) high) both.0
       ])
@@ -124,9 +124,9 @@ module _ (e p : ℕ) (drops : Bool) (laid : LaidPiece) (is : laid.cells ≡ fiel
   covered_none covered bits nil must x y z here above low empty =
       let cell = cell_of p x y small_p (from_piece x y here) in
       row_gone e z small (false_from_ne_true _ (λ has.
-        both_ways _ (unset (bit_and p covered) (8 * x + y) nil)
-        (has_bit-and p covered (8 * x + y) ∙ and_from _ _ cell.bit (bits x y cell.column cell.row ∙ and_from _ _ must
-          (above_has (is_filled (field_of e)) 8 x y z above (omega (arith, low)) low (and_from _ _ has (not_so _ empty)))))))
+      both_ways _ (unset (bit_and p covered) (8 * x + y) nil)
+      (has_bit-and p covered (8 * x + y) ∙ and_from _ _ cell.bit (bits x y cell.column cell.row ∙ and_from _ _ must
+      (above_has (is_filled (field_of e)) 8 x y z above (omega (arith, low)) low (and_from _ _ has (not_so _ empty)))))))
     where
       not_so : (b : Bool) → b ≡ false → not b ≡ true
       not_so b e = search rules

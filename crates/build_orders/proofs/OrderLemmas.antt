@@ -1,9 +1,6 @@
 -- Orders of a tiling's pieces, and orders of the indexes of those that lie in the set.
-use Rattle.std.proofs.Common.{◌≡◌, ◌⊎◌, ◌↔◌, ℕ, zero, suc, ◌+◌, ◌*◌, ◌/◌, ◌%◌, ◌^◌, ◌<◌, ◌≤◌, Bool, true, false, not, ◌&&◌, List, [], ◌∷◌, ◌++◌, length, map, get_or, slice_index, refl, sym, ap, subst, ◌∙◌, inl, inr, arith, rules}
+use Rattle.std.proofs.Common.{◌≡◌, ◌↔◌, ℕ, zero, suc, ◌+◌, Bool, true, not, ◌&&◌, List, [], ◌∷◌, slice_index, refl, sym, ap, subst, ◌∙◌, arith, rules}
 use Rattle.std.specs.Prelude.{All}
-use Rattle.std.proofs.Math.Path.{fun_ext}
-use Rattle.std.proofs.lemmas.Bool.{and_parts, both_ways, cases_eq, cases_lt}
-use Rattle.std.proofs.lemmas.List.{get_or_append_left, get_or-append-add, length-append, length-map, map-append}
 use Rattle.lane_board.specs.Field.{Field, difference}
 use Rattle.lane_board.specs.Lanes.{has_bit}
 use Rattle.srs.specs.declared.piece.Piece.TheVariants.{I}
@@ -12,10 +9,9 @@ use Rattle.empty_cells.specs.Spans.{HasNoCell}
 use Rattle.tiled_pieces.specs.declared.listed.ListedTiling.{ListedTiling}
 use Rattle.tiled_pieces.specs.TilingLists.{HasPiece, LaidPiece, laid_at}
 use Rattle.build_orders.specs.declared.laid.Laid.{Laid}
-use Rattle.build_orders.specs.Built.{AreBuilt, Fits, IsGone, Rests}
-use Rattle.build_orders.specs.Orders.{HasLaid, HasOrder, HasThose, IsAt, IsOf, LiesIn, MayFollow, UsesUp, cells_at, weight_at}
+use Rattle.build_orders.specs.Built.{AreBuilt, Fits}
+use Rattle.build_orders.specs.Orders.{HasLaid, HasOrder, HasThose, LiesIn, UsesUp, cells_at, weight_at}
 use Rattle.build_orders.specs.Served.{AreAllowed, IsServed, left_by, with_weight}
-use Rattle.build_orders.specs.Words.{field_of}
 
 -- only the cells count
 pub fits_same : (F : Field) (drops : Bool) (a b : LaidPiece) → a.cells ≡ b.cells → Fits F drops a → Fits F drops b
@@ -51,7 +47,7 @@ module _ (tiling : ListedTiling) (weights allowed : List ℕ) (bit : ℕ) (drops
   found : (laid : LaidPiece) → HasPiece tiling laid → (F : Field) → IsWithin F → Fits F drops laid → HasLaid weights pieces laid
   found laid has F within fits =
       subst (HasLaid weights pieces) has.there (those.all has.index has.known (subst (λ (l : LaidPiece). LiesIn l.cells E) (sym has.there)
-        (record { x = fits.rests.x; y = fits.rests.y; there = fits.rests.there; inside = λ a b here. within a b (fits.inside a b here) })))
+      (record { x = fits.rests.x; y = fits.rests.y; there = fits.rests.there; inside = λ a b here. within a b (fits.inside a b here) })))
 
   to_indexes : (order : List LaidPiece) (F : Field) (number : ℕ) → IsWithin F → All (HasPiece tiling) order → AreBuilt F drops order → HasNoCell (left_by F order) → AreAllowed weights allowed bit number order →
       (is : List ℕ) × UsesUp pieces drops allowed bit F number is
@@ -60,15 +56,18 @@ module _ (tiling : ListedTiling) (weights allowed : List ℕ) (bit : ℕ) (drops
   to_indexes (laid ∷ more) F number within has built empty permitted =
       let at = found laid (has 0 laid (omega arith)) F within built.0 in
       let sum : number + weight_at pieces at.index ≡ number + slice_index weights (piece_code laid.piece) = ap (λ w. number + w) at.here.weight in
-      let rest = to_indexes more (difference F laid.cells) (number + slice_index weights (piece_code laid.piece)) (within_less F laid.cells within) (λ k d below. has (suc k) d (omega (arith, below))) built.1 empty permitted.1 in
-      (at.index ∷ rest.0,
-        (record {
-          known = at.here.known;
-          fits = fits_same F drops laid (record { piece = I; cells = cells_at pieces at.index }) (sym at.here.cells) built.0;
-          permitted = ap (λ n. has_bit (slice_index allowed n) bit) sum ∙ permitted.0;
-        },
+      let rest = to_indexes more (difference F laid.cells) (number + slice_index weights (piece_code laid.piece)) (within_less F laid.cells within) (λ k d below. has (suc k) d (omega (arith, below))) built.1 empty permitted.1 in (
+        at.index ∷ rest.0,
+        (
+          record {
+            known = at.here.known;
+            fits = fits_same F drops laid (record { piece = I; cells = cells_at pieces at.index }) (sym at.here.cells) built.0;
+            permitted = ap (λ n. has_bit (slice_index allowed n) bit) sum ∙ permitted.0;
+          },
           subst (λ (G : Field). UsesUp pieces drops allowed bit (difference F G) (number + weight_at pieces at.index) rest.0) (sym at.here.cells)
-          (subst (λ n. UsesUp pieces drops allowed bit (difference F laid.cells) n rest.0) (sym sum) rest.1)))
+              (subst (λ n. UsesUp pieces drops allowed bit (difference F laid.cells) n rest.0) (sym sum) rest.1),
+        ),
+      )
 
   both : (laid : LaidPiece) (order : List LaidPiece) → HasPiece tiling laid → All (HasPiece tiling) order → All (HasPiece tiling) (laid ∷ order)
   both laid order here others zero d below = here
@@ -82,8 +81,8 @@ module _ (tiling : ListedTiling) (weights allowed : List ℕ) (bit : ℕ) (drops
       let laid = laid_at tiling of.place in
       let sum : number + weight_at pieces i ≡ number + slice_index weights (piece_code laid.piece) = ap (λ w. number + w) of.here.weight in
       let rest = from_indexes is (difference F laid.cells) (number + slice_index weights (piece_code laid.piece))
-        (subst (λ (G : Field). UsesUp pieces drops allowed bit (difference F G) (number + slice_index weights (piece_code laid.piece)) is) of.here.cells
-        (subst (λ n. UsesUp pieces drops allowed bit (difference F (cells_at pieces i)) n is) sum goes.1)) in
+      (subst (λ (G : Field). UsesUp pieces drops allowed bit (difference F G) (number + slice_index weights (piece_code laid.piece)) is) of.here.cells
+      (subst (λ n. UsesUp pieces drops allowed bit (difference F (cells_at pieces i)) n is) sum goes.1)) in
       record {
         order = laid ∷ rest.order;
         each = both laid rest.order (record { index = of.place; known = of.low; there = refl }) rest.each;
@@ -95,7 +94,7 @@ module _ (tiling : ListedTiling) (weights allowed : List ℕ) (bit : ℕ) (drops
   pub served_both : HasOrder pieces drops allowed bit E ↔ IsServed tiling E drops weights allowed bit
   served_both = (
     (λ some. let serves = from_indexes some.order E 0 some.uses_up in
-      record { order = serves.order; pieces = serves.each; built = serves.built; uses_up = serves.uses_up; permitted = serves.permitted }),
+        record { order = serves.order; pieces = serves.each; built = serves.built; uses_up = serves.uses_up; permitted = serves.permitted }),
     (λ served. let indexes = to_indexes served.order E 0 (λ x y here. here) served.pieces served.built served.uses_up served.permitted in
-      record { order = indexes.0; uses_up = indexes.1 }),
+        record { order = indexes.0; uses_up = indexes.1 }),
   )

@@ -1,7 +1,7 @@
 -- The pieces of a tiling that lie in a set, one place after the other.
-use Rattle.std.proofs.Common.{◌≡◌, ◌⊎◌, ◌↔◌, ℕ, zero, suc, ◌+◌, ◌*◌, ◌/◌, ◌%◌, ◌^◌, ◌<◌, ◌≤◌, Bool, true, false, not, ◌&&◌, nat_lt, List, [], ◌∷◌, ◌++◌, length, map, take, slice_index, refl, sym, ap, subst, ◌∙◌, inl, inr, arith, rules}
+use Rattle.std.proofs.Common.{◌≡◌, ℕ, ◌+◌, ◌*◌, ◌/◌, ◌%◌, ◌^◌, ◌<◌, Bool, true, false, not, ◌&&◌, nat_lt, List, [], ◌∷◌, ◌++◌, length, map, slice_index, refl, sym, ap, subst, ◌∙◌, inl, inr, arith, rules}
 use Rattle.std.proofs.Math.Path.{fun_ext}
-use Rattle.std.proofs.lemmas.Bool.{and_parts, both_ways, cases_eq, cases_lt}
+use Rattle.std.proofs.lemmas.Bool.{and_parts, both_ways, cases_eq}
 use Rattle.std.proofs.lemmas.List.{get_or_append_left, get_or-append-add, length-append, length-map, map-append}
 use Rattle.lane_board.specs.Field.{Field}
 use Rattle.lane_board.specs.Lanes.{has_bit}
@@ -9,7 +9,7 @@ use Rattle.srs.specs.Piece.{piece_code}
 use Rattle.tiled_pieces.specs.declared.listed.ListedTiling.{ListedTiling}
 use Rattle.tiled_pieces.specs.TilingLists.{LaidPiece, laid_at}
 use Rattle.build_orders.specs.declared.laid.Laid.{Laid}
-use Rattle.build_orders.specs.Orders.{HasLaid, HasThose, IsAt, IsOf, LiesIn, cells_at, weight_at}
+use Rattle.build_orders.specs.Orders.{HasLaid, HasThose, IsAt, LiesIn, cells_at, weight_at}
 use Rattle.build_orders.specs.Words.{field_of}
 use Rattle.build_orders.proofs.RowTests.{cell_from, cell_of}
 use Rattle.build_orders.proofs.FitTests.{cell_at, none_set, some_bit, unset}

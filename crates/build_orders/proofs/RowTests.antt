@@ -1,6 +1,5 @@
 -- Rows that have a cell, and the rows between those of a set.
-use Rattle.std.proofs.Common.{◌≡◌, ℕ, zero, suc, ◌+◌, ◌*◌, ◌/◌, ◌%◌, ◌^◌, ◌<◌, ◌≤◌, Bool, true, false, not, ◌&&◌, ◌||◌, nat_lt, List, [], ◌∷◌, get_or, refl, sym, ap, ◌∙◌, inl, inr, arith, rules}
-use Rattle.std.proofs.Math.Path.{fun_ext}
+use Rattle.std.proofs.Common.{◌≡◌, ℕ, suc, ◌+◌, ◌*◌, ◌^◌, ◌<◌, ◌≤◌, Bool, true, false, not, ◌&&◌, ◌||◌, nat_lt, List, [], ◌∷◌, get_or, refl, ap, ◌∙◌, inl, inr, arith, rules}
 use Rattle.std.specs.List.{list_any}
 use Rattle.std.proofs.lemmas.Bool.{and_from, and_parts, both_ways, cases_Bool, cases_lt, false_from_ne_true, false≢true, lt-ltb, ltb-true}
 use Rattle.std.proofs.lemmas.List.{get_or_past}
@@ -106,7 +105,7 @@ unfolding is_between
 between_has rows y z v none lower upper below above low =
     and_from _ _ (is_not (rows z) none)
     (and_from _ _ (any_eight (λ y. rows y && nat_lt y z) y (omega (arith, below, above, low)) (and_from _ _ lower (lt-ltb y z below)))
-      (any_eight (λ v. rows v && nat_lt z v) v low (and_from _ _ upper (lt-ltb z v above))))
+    (any_eight (λ v. rows v && nat_lt z v) v low (and_from _ _ upper (lt-ltb z v above))))
 
 pub between_same : (rows others : ℕ → Bool) (z : ℕ) → z < 8 → ((y : ℕ) → y < 8 → rows y ≡ others y) → is_between rows z ≡ is_between others z
 unfolding is_between

@@ -1,9 +1,9 @@
 -- Sets of pieces as numbers, and what one piece more changes.
-use Rattle.std.proofs.Common.{◌≡◌, ◌⊎◌, ℕ, zero, suc, ◌+◌, ◌*◌, ◌/◌, ◌%◌, ◌^◌, ◌<◌, ◌≤◌, Bool, true, false, not, ◌&&◌, ◌||◌, ◌==◌, nat_eq, if◌then◌else◌, bit_and, bit_or, List, length, refl, sym, ap, ap₂, ◌∙◌, inl, inr, arith, rules}
+use Rattle.std.proofs.Common.{◌≡◌, ℕ, zero, suc, ◌+◌, ◌/◌, ◌^◌, ◌<◌, ◌≤◌, Bool, true, false, not, ◌&&◌, ◌||◌, ◌==◌, nat_eq, if◌then◌else◌, bit_and, bit_or, List, refl, sym, ap, ap₂, ◌∙◌, inl, inr, arith, rules}
 use Rattle.std.proofs.Math.Path.{fun_ext}
 use Rattle.std.proofs.Math.Bool.{or-false}
-use Rattle.std.proofs.lemmas.Bool.{and_parts, both_ways, cases_Bool, cases_eq, cases_lt, eq-eqb, ne_eqb}
-use Rattle.std.proofs.lemmas.Nat.{le_or_l, one_shl, or_lt, pow_below}
+use Rattle.std.proofs.lemmas.Bool.{both_ways, cases_eq, eq-eqb, ne_eqb}
+use Rattle.std.proofs.lemmas.Nat.{le_or_l, or_lt, pow_below}
 use Rattle.std.proofs.lemmas.Nat.Bits.{bit_at-pow_other, bit_at-pow_same, shr_and_one}
 use Rattle.lane_board.specs.Field.{Field, difference}
 use Rattle.lane_board.specs.Lanes.{has_bit}

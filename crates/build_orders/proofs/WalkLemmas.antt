@@ -1,5 +1,5 @@
 -- The pieces of a list, and what carries hands on.
-use Rattle.std.proofs.Common.{◌≡◌, ◌⊎◌, ◌↔◌, ℕ, zero, suc, ◌+◌, ◌*◌, ◌/◌, ◌%◌, ◌^◌, ◌<◌, ◌≤◌, Bool, true, false, not, ◌&&◌, ◌||◌, nat_lt, if◌then◌else◌, bit_and, bit_or, List, length, map, get_or, slice_index, slice_set, refl, sym, ap, ap₂, subst, ◌∙◌, inl, inr, arith, rules}
+use Rattle.std.proofs.Common.{◌≡◌, ◌⊎◌, ◌↔◌, ℕ, suc, ◌+◌, ◌*◌, ◌/◌, ◌%◌, ◌^◌, ◌<◌, Bool, true, false, not, ◌&&◌, ◌||◌, nat_lt, if◌then◌else◌, bit_and, bit_or, List, length, map, get_or, slice_index, slice_set, refl, sym, ap, subst, ◌∙◌, inl, inr, arith, rules}
 use Rattle.std.proofs.Math.Path.{fun_ext}
 use Rattle.std.proofs.lemmas.Bool.{and_from, and_parts, both_ways, cases_eq}
 use Rattle.std.proofs.lemmas.List.{get_or-set_other, get_or-set_same, get_or-map}
@@ -11,7 +11,7 @@ use Rattle.empty_cells.specs.Spans.{HasNoCell}
 use Rattle.tiled_pieces.specs.TilingLists.{LaidPiece}
 use Rattle.build_orders.specs.declared.laid.Laid.{Laid}
 use Rattle.build_orders.specs.Built.{Fits}
-use Rattle.build_orders.specs.Orders.{Carries, IsCarried, MayFollow, Visits, cells_at, left_after, number_after, weight_at}
+use Rattle.build_orders.specs.Orders.{Carries, IsCarried, Visits, cells_at, left_after, number_after, weight_at}
 use Rattle.build_orders.specs.Words.{field_of}
 use Rattle.build_orders.proofs.FitTests.{cell_at, none_set}
 
@@ -149,9 +149,9 @@ module _ (pieces : List Laid) (drops : Bool) (allowed : List ℕ) (hands set : �
           (has_bit (slice_index old s) bit ≡ true) ⊎ ((k : ℕ) × (s ≡ bit_or set (2 ^ k)) × IsSo k bit)
       only s bit has = elim (cases_eq s t) [
         | inl same ↦ elim (is_one _ _ (sym (there bit) ∙ ap (λ s. has_bit (slice_index (slice_set mid t (bit_or (slice_index mid t) bits)) s) bit) (sym same) ∙ has)) [
-            | inl before ↦ so.only s bit (ap (λ s. has_bit (slice_index mid s) bit) same ∙ before)
-            | inr now ↦ inr (i, same ∙ at, (told bit).0 now)
-          ]
+          | inl before ↦ so.only s bit (ap (λ s. has_bit (slice_index mid s) bit) same ∙ before)
+          | inr now ↦ inr (i, same ∙ at, (told bit).0 now)
+        ]
         | inr other ↦ so.only s bit (sym (elsewhere s bit other) ∙ has)
       ]
 
@@ -180,8 +180,8 @@ module _ (pieces : List Laid) (drops : Bool) (allowed : List ℕ) (E : Field) (s
     ends = λ bit empty has. has;
     carries = carries_none pieces drops allowed (slice_index old set) set left (number_after pieces set (length pieces)) old (length pieces)
         (λ i bit below carried.
-          let fits = carried.follows.fits in
-          both_ways _ (empty.none fits.rests.x fits.rests.y) (fits.inside fits.rests.x fits.rests.y fits.rests.there));
+        let fits = carried.follows.fits in
+        both_ways _ (empty.none fits.rests.x fits.rests.y) (fits.inside fits.rests.x fits.rests.y fits.rests.there));
   }
 
   pub visit_carried : (new : List ℕ) (d : Bool) (F : Field) (k : ℕ) → d ≡ drops → F ≡ left → k ≡ number_after pieces set (length pieces) → (HasNoCell F → ⊥) →

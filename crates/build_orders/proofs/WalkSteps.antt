@@ -1,13 +1,12 @@
 -- The walk goes through the sets of pieces in rising order: each hand that an order serves is found, or waits at a set
 -- from which the rest of the order goes on.
-use Rattle.std.proofs.Common.{◌≡◌, ◌⊎◌, ◌↔◌, ℕ, zero, suc, ◌+◌, ◌*◌, ◌^◌, ◌<◌, ◌≤◌, Bool, true, false, ◌||◌, if◌then◌else◌, bit_or, List, [], ◌∷◌, length, replicate, get_or, slice_index, slice_set, refl, sym, ap, subst, ◌∙◌, inl, inr, arith, rules}
+use Rattle.std.proofs.Common.{◌≡◌, ◌⊎◌, ◌↔◌, ℕ, zero, suc, ◌+◌, ◌^◌, ◌<◌, ◌≤◌, Bool, true, false, ◌||◌, if◌then◌else◌, bit_or, List, [], ◌∷◌, length, replicate, slice_index, slice_set, refl, sym, ap, subst, ◌∙◌, inl, inr, arith, rules}
 use Rattle.std.proofs.lemmas.Bool.{both_ways, cases_Bool, cases_eq, cases_lt}
 use Rattle.std.proofs.lemmas.List.{get_or-replicate, get_or-set_other, get_or-set_same, get_or_past}
 use Rattle.std.proofs.lemmas.Nat.{pow_pos}
 use Rattle.lane_board.specs.Field.{Field, difference}
 use Rattle.lane_board.specs.Lanes.{has_bit}
 use Rattle.lane_board.proofs.CallerLemmas.{has_bit-or, has_bit-zero}
-use Rattle.empty_cells.specs.Spans.{HasNoCell}
 use Rattle.build_orders.specs.declared.laid.Laid.{Laid}
 use Rattle.build_orders.specs.Orders.{HasOrder, IsCarried, MayFollow, UsesUp, Visits, cells_at, left_after, number_after, weight_at}
 use Rattle.build_orders.proofs.SetLemmas.{joined_above, joined_below, left_joined, number_joined, taken}
@@ -66,9 +65,9 @@ module _ (pieces : List Laid) (drops : Bool) (allowed : List ℕ) (pending : ℕ
     });
     came = λ set bit has. elim (cases_eq set 0) [
       | inl same ↦ rw same (record {
-          pends = ap (λ n. has_bit n bit) (sym (get_or-set_same (replicate 256 0) 0 pending 0 (omega arith))) ∙ ap (λ s. has_bit (slice_index (slice_set (replicate 256 0) 0 pending) s) bit) (sym same) ∙ has;
-          orders = λ more goes. record { order = more; uses_up = uses_same bit _ _ _ _ more (none_left (length pieces)) (no_number (length pieces)) goes };
-        })
+        pends = ap (λ n. has_bit n bit) (sym (get_or-set_same (replicate 256 0) 0 pending 0 (omega arith))) ∙ ap (λ s. has_bit (slice_index (slice_set (replicate 256 0) 0 pending) s) bit) (sym same) ∙ has;
+        orders = λ more goes. record { order = more; uses_up = uses_same bit _ _ _ _ more (none_left (length pieces)) (no_number (length pieces)) goes };
+      })
       | inr other ↦ absurd (both_ways _ (ap (λ n. has_bit n bit) (get_or-set_other (replicate 256 0) 0 set pending 0 other ∙ zeros set) ∙ has_bit-zero bit) has)
     ];
     found_is = λ bit has. absurd (both_ways _ (has_bit-zero bit) has);
@@ -122,13 +121,13 @@ module _ (pieces : List Laid) (drops : Bool) (allowed : List ℕ) (pending : ℕ
       | inl same ↦ moves bit (ap (λ s. has_bit (slice_index table s) bit) (sym same) ∙ waits.has) waits.more
           (subst (λ s. UsesUp pieces drops allowed bit (left_after pieces E s (length pieces)) (number_after pieces s (length pieces)) waits.more) same waits.goes)
       | inr other ↦ inr (record {
-          set = waits.set;
-          from = omega (arith, waits.from, other);
-          below = waits.below;
-          has = visits.carries.keeps waits.set bit waits.has;
-          more = waits.more;
-          goes = waits.goes;
-        })
+        set = waits.set;
+        from = omega (arith, waits.from, other);
+        below = waits.below;
+        has = visits.carries.keeps waits.set bit waits.has;
+        more = waits.more;
+        goes = waits.goes;
+      })
     ]
 
     came_on : (bit i : ℕ) → IsCarried pieces drops allowed (slice_index table m) m left number i bit → Came (bit_or m (2 ^ i)) bit
@@ -137,8 +136,10 @@ module _ (pieces : List Laid) (drops : Bool) (allowed : List ℕ) (pending : ℕ
         let before = walked.came m bit carried.hand in
         record {
           pends = before.pends;
-          orders = λ rest goes. before.orders (i ∷ rest) (carried.follows,
-            uses_same bit _ _ _ _ rest (left_joined pieces E m i carried.unset (length pieces) carried.follows.known) (number_joined pieces E m i carried.unset (length pieces) carried.follows.known) goes);
+          orders = λ rest goes. before.orders (i ∷ rest) (
+            carried.follows,
+            uses_same bit _ _ _ _ rest (left_joined pieces E m i carried.unset (length pieces) carried.follows.known) (number_joined pieces E m i carried.unset (length pieces) carried.follows.known) goes,
+          );
         }
 
     comes_from : (set bit : ℕ) → (has_bit (slice_index table set) bit ≡ true) ⊎ ((i : ℕ) × (set ≡ bit_or m (2 ^ i)) × IsCarried pieces drops allowed (slice_index table m) m left number i bit) → Came set bit

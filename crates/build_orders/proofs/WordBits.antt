@@ -1,15 +1,12 @@
 -- The bits of sets of cells after an operator.
-use Rattle.std.proofs.Common.{◌≡◌, ℕ, zero, suc, ◌+◌, ◌*◌, ◌/◌, ◌%◌, ◌^◌, ◌<◌, ◌≤◌, Bool, true, false, not, ◌&&◌, ◌||◌, ◌==◌, nat_lt, List, [], ◌∷◌, bit_and, bit_or, bit_xor, refl, sym, ap, ap₂, ◌∙◌, inl, inr, arith, rules}
+use Rattle.std.proofs.Common.{◌≡◌, ℕ, ◌+◌, ◌*◌, ◌/◌, ◌%◌, ◌^◌, ◌<◌, ◌≤◌, Bool, true, false, ◌&&◌, ◌||◌, [], ◌∷◌, bit_and, bit_or, refl, sym, ap, ap₂, ◌∙◌, arith}
 use Rattle.std.proofs.Math.Path.{fun_ext}
-use Rattle.std.proofs.Math.Bool.{or_assoc}
 use Rattle.std.specs.List.{list_any}
-use Rattle.std.proofs.lemmas.Bool.{agree_below, agree_below_at, cases_lt, le-ltb, lt-ltb}
-use Rattle.std.proofs.lemmas.Nat.{xor_lt, and_le_l}
-use Rattle.lane_board.specs.Field.{Field}
+use Rattle.std.proofs.lemmas.Bool.{agree_below, agree_below_at, lt-ltb}
 use Rattle.lane_board.specs.FullRows.{columns}
 use Rattle.lane_board.specs.Lanes.{has_bit}
-use Rattle.lane_board.proofs.CallerLemmas.{and_true, has_bit-and, has_bit-low, has_bit-or, has_bit-shifted_high, has_bit-shifted_right}
-use Rattle.build_orders.specs.Words.{field_of, has_above, has_row, is_between}
+use Rattle.lane_board.proofs.CallerLemmas.{and_true, has_bit-and, has_bit-or, has_bit-shifted_right}
+use Rattle.build_orders.specs.Words.{field_of, has_row}
 
 -- a cell in rows 0 to 7
 pub field_at : (n x y : ℕ) → y < 8 → field_of n x y ≡ has_bit n (8 * x + y)
@@ -71,7 +68,7 @@ module _ (n y : ℕ) (low : y < 8) where
   bits : has_bit (bit_and (bit_or eight (two / 2 ^ 64)) 255) y ≡ list_any (λ x. has_bit n (8 * x + y)) columns
   bits = has_bit-and _ 255 y ∙ and_true _ _ (ones y low) ∙ has_bit-or eight (two / 2 ^ 64) y
       ∙ ap₂ ◌||◌ (or_moved four 32 y (32 + y) refl ∙ ap₂ ◌||◌ (of_four y) (four_at (32 + y) (40 + y) (48 + y) (56 + y) (omega arith) (omega arith) (omega arith)))
-        (has_bit-shifted_right two 64 y ∙ of_two (64 + y) (72 + y) (omega arith))
+      (has_bit-shifted_right two 64 y ∙ of_two (64 + y) (72 + y) (omega arith))
       ∙ grouped (has_bit n y) (has_bit n (8 + y)) (has_bit n (16 + y)) (has_bit n (24 + y)) (has_bit n (32 + y)) (has_bit n (40 + y)) (has_bit n (48 + y)) (has_bit n (56 + y)) (has_bit n (64 + y)) (has_bit n (72 + y))
       ∙ ap (λ k. has_bit n k || list_any (λ x. has_bit n (8 * x + y)) (1 ∷ 2 ∷ 3 ∷ 4 ∷ 5 ∷ 6 ∷ 7 ∷ 8 ∷ 9 ∷ [])) {x = y} {y = 0 + y} (omega arith)
 

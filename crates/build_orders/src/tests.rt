@@ -20,14 +20,7 @@ fn served(
     if list.tilings.len() != 1 {
         return None;
     }
-    Some(served_hands(
-        &list.tilings[0],
-        &cells,
-        drops,
-        weights,
-        allowed,
-        pending,
-    ))
+    Some(served_hands(&list.tilings[0], &cells, drops, weights, allowed, pending))
 }
 
 #[test]
@@ -37,10 +30,20 @@ fn a_row_between_the_cells_must_be_gone(rt: HostRuntime) {
     let supply = [1, 0, 1, 0, 1, 0, 0];
     let weights = [0, 4, 0, 2, 0, 1, 0, 0];
     // In turn T O I, O T I, I T O, T I O and I O T.
-    let allowed = [0, 0b01001, 0b00010, 0b00011, 0b10100, 0b01100, 0b10000, 0b11111];
+    let allowed = [
+        0, 0b01001, 0b00010, 0b00011, 0b10100, 0b01100, 0b10000, 0b11111,
+    ];
     let all = served(rt.alloc(), rows, &supply, true, &weights, &allowed, 0b11111);
     assert!(rt; all == Some(0b01101));
-    let some = served(rt.alloc(), rows, &supply, false, &weights, &allowed, 0b00110);
+    let some = served(
+        rt.alloc(),
+        rows,
+        &supply,
+        false,
+        &weights,
+        &allowed,
+        0b00110,
+    );
     assert!(rt; some == Some(0b00100));
 }
 

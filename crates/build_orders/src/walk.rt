@@ -2,7 +2,12 @@
 ghost use Rattle.std.specs.Prelude.{ℕ, ◌≡◌, ◌<◌, ◌≤◌, ◌^◌, ◌↔◌, length, slice_index, true};
 ghost use Rattle.lane_board.specs.Lanes.{has_bit};
 ghost use Rattle.build_orders.specs.Orders.{
-    Carries, HasOrder, IsCarried, Visits, left_after, number_after
+  Carries,
+  HasOrder,
+  IsCarried,
+  Visits,
+  left_after,
+  number_after,
 };
 ghost use Rattle.build_orders.specs.Words.{field_of};
 

@@ -2,7 +2,12 @@
 ghost use Rattle.std.specs.Prelude.{ℕ, ◌≡◌, ◌≤◌, ◌<◌, ◌+◌, ◌*◌, ◌^◌, ◌&&◌, ◌==◌, not, nat_lt};
 ghost use Rattle.lane_board.specs.Lanes.{has_bit};
 ghost use Rattle.build_orders.specs.Words.{
-    field_of, has_row, is_filled, has_floor, has_above, is_between
+  field_of,
+  has_row,
+  is_filled,
+  has_floor,
+  has_above,
+  is_between,
 };
 
 /// The lowest row.

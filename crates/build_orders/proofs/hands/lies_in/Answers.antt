@@ -1,5 +1,4 @@
 -- No cell, and none outside.
-use Rattle.std.proofs.Common.{arith}
 use Rattle.std.proofs.lemmas.Bool.{eq-eqb, eqb-true, false≢true}
 use Rattle.build_orders.specs.Words.{field_of}
 use Rattle.build_orders.proofs.PieceLemmas.{lies_back, lies_from, lies_none}

@@ -16,25 +16,28 @@ pub overflow_add-number : goal.overflow_add-number
 overflow_add-number c = omega (arith, c.requires.number, c.from.ensures, c.index-pieces-index.result.light)
 
 pub returns-then-bits-eq0 : goal.returns-then-bits-eq0
-returns-then-bits-eq0 c = λ bit.
-    ((λ has. absurd (both_ways _ (has_bit-zero bit) has)),
-      (λ is. ap (λ n. has_bit n bit) (sym c.if-bits-eq0.true)
-        ∙ carried_bit c.args.pieces.now c.args.left.now.drops c.args.allowed.now c.args.hands c.args.set (field_of c.args.left.now.cells) c.args.number c.args.index bit
-          c.index-pieces-index.result c.allowed_at.result c.requires.index c.index-pieces-index.is
-          (c.allowed_at.ensures ∙ ap (λ w. slice_index c.args.allowed.now (c.args.number + w)) c.from.ensures) is))
+returns-then-bits-eq0 c = λ bit. (
+  (λ has. absurd (both_ways _ (has_bit-zero bit) has)),
+  (λ is. ap (λ n. has_bit n bit) (sym c.if-bits-eq0.true)
+      ∙ carried_bit c.args.pieces.now c.args.left.now.drops c.args.allowed.now c.args.hands c.args.set (field_of c.args.left.now.cells) c.args.number c.args.index bit
+      c.index-pieces-index.result c.allowed_at.result c.requires.index c.index-pieces-index.is
+      (c.allowed_at.ensures ∙ ap (λ w. slice_index c.args.allowed.now (c.args.number + w)) c.from.ensures) is),
+)
 
 pub returns-then-not-fits : goal.returns-then-not-fits
-returns-then-not-fits c = λ bit.
-    ((λ has. absurd (both_ways _ (has_bit-zero bit) has)),
-      (λ is. absurd (both_ways _ c.if-not-fits.true ((c.fits.ensures I).1
-        (carried_fits c.args.pieces.now c.args.left.now.drops c.args.allowed.now c.args.hands c.args.set (field_of c.args.left.now.cells) c.args.number c.args.index bit
-          c.index-pieces-index.result c.allowed_at.result c.requires.index c.index-pieces-index.is
-          (c.allowed_at.ensures ∙ ap (λ w. slice_index c.args.allowed.now (c.args.number + w)) c.from.ensures) is)))))
+returns-then-not-fits c = λ bit. (
+  (λ has. absurd (both_ways _ (has_bit-zero bit) has)),
+  (λ is. absurd (both_ways _ c.if-not-fits.true ((c.fits.ensures I).1
+      (carried_fits c.args.pieces.now c.args.left.now.drops c.args.allowed.now c.args.hands c.args.set (field_of c.args.left.now.cells) c.args.number c.args.index bit
+      c.index-pieces-index.result c.allowed_at.result c.requires.index c.index-pieces-index.is
+      (c.allowed_at.ensures ∙ ap (λ w. slice_index c.args.allowed.now (c.args.number + w)) c.from.ensures) is)))),
+)
 
 pub returns : goal.returns
 returns c = λ bit.
-    let at = c.allowed_at.ensures ∙ ap (λ w. slice_index c.args.allowed.now (c.args.number + w)) c.from.ensures in
-    ((λ has. carried_from c.args.pieces.now c.args.left.now.drops c.args.allowed.now c.args.hands c.args.set (field_of c.args.left.now.cells) c.args.number c.args.index bit
-        c.index-pieces-index.result c.allowed_at.result c.requires.index c.index-pieces-index.is at (sym c.has.ensures ∙ c.if-has.false) ((c.fits.ensures I).0 c.if-not-fits.false) has),
+    let at = c.allowed_at.ensures ∙ ap (λ w. slice_index c.args.allowed.now (c.args.number + w)) c.from.ensures in (
+      (λ has. carried_from c.args.pieces.now c.args.left.now.drops c.args.allowed.now c.args.hands c.args.set (field_of c.args.left.now.cells) c.args.number c.args.index bit
+          c.index-pieces-index.result c.allowed_at.result c.requires.index c.index-pieces-index.is at (sym c.has.ensures ∙ c.if-has.false) ((c.fits.ensures I).0 c.if-not-fits.false) has),
       (λ is. carried_bit c.args.pieces.now c.args.left.now.drops c.args.allowed.now c.args.hands c.args.set (field_of c.args.left.now.cells) c.args.number c.args.index bit
-        c.index-pieces-index.result c.allowed_at.result c.requires.index c.index-pieces-index.is at is))
+          c.index-pieces-index.result c.allowed_at.result c.requires.index c.index-pieces-index.is at is),
+    )

@@ -1,5 +1,5 @@
 -- One more piece.
-use Rattle.std.proofs.Common.{◌≡◌, ℕ, ◌*◌, ◌%◌, ◌^◌, ◌<◌, ◌≤◌, bit_or, length, slice_index, sym, ap, subst, ◌∙◌, arith}
+use Rattle.std.proofs.Common.{◌≡◌, ℕ, ◌*◌, ◌%◌, ◌^◌, ◌<◌, bit_or, length, slice_index, sym, ap, subst, ◌∙◌, arith}
 use Rattle.std.proofs.lemmas.Nat.{one_shl}
 use Rattle.std.proofs.lemmas.List.{length-set}
 use Rattle.build_orders.specs.Orders.{Carries}
@@ -30,10 +30,11 @@ pub loop-index-preserved : goal.loop-index-preserved
 loop-index-preserved c =
     let low : c.loop-index.index < 8 = omega (arith, c.requires.few, c.loop-index-test.true) in
     let here : bit_or c.args.set (1 * 2 ^ c.loop-index.index % 2 ^ 64) < length c.loop-index.table =
-        omega (arith, c.loop-index.invariant.0, within c.args.set c.loop-index.index c.requires.set low) in
-    (length-set c.loop-index.table _ _ ∙ c.loop-index.invariant.0,
+    omega (arith, c.loop-index.invariant.0, within c.args.set c.loop-index.index c.requires.set low) in (
+      length-set c.loop-index.table _ _ ∙ c.loop-index.invariant.0,
       carries_more c.args.pieces.now c.args.left.now.drops c.args.allowed.now (slice_index c.args.table.now c.args.set) c.args.set (field_of c.args.left.now.cells) c.args.number c.args.table.now
-        c.loop-index.table _ c.carried-bits.result c.loop-index.index (joined c.args.set c.loop-index.index low) here c.carried-bits.ensures c.loop-index.invariant.1)
+          c.loop-index.table _ c.carried-bits.result c.loop-index.index (joined c.args.set c.loop-index.index low) here c.carried-bits.ensures c.loop-index.invariant.1,
+    )
 
 pub returns : goal.returns
 returns c = subst (λ n. Carries c.args.pieces.now c.args.left.now.drops c.args.allowed.now (slice_index c.args.table.now c.args.set) c.args.set (field_of c.args.left.now.cells) c.args.number c.args.table.now c.loop-index.table n)

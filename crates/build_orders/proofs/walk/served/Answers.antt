@@ -1,5 +1,5 @@
 -- One more set.
-use Rattle.std.proofs.Common.{◌≡◌, ℕ, ◌*◌, ◌%◌, ◌^◌, ◌<◌, ◌≤◌, length, sym, ap, subst, ◌∙◌, arith}
+use Rattle.std.proofs.Common.{◌≡◌, ◌*◌, ◌%◌, ◌^◌, ◌<◌, ◌≤◌, length, subst, arith}
 use Rattle.std.proofs.lemmas.Nat.{one_shl}
 use Rattle.build_orders.specs.Words.{field_of}
 use Rattle.build_orders.proofs.WalkSteps.{walk_end, walk_on, walk_start}
@@ -12,10 +12,10 @@ pub loop-set-preserved : goal.loop-set-preserved
 loop-set-preserved c =
     let sets : 1 * 2 ^ length c.args.pieces.now % 2 ^ 64 ≡ 2 ^ length c.args.pieces.now = one_shl (length c.args.pieces.now) 64 (omega (arith, c.requires.few)) in
     walk_on c.args.pieces.now c.args.drops c.args.allowed.now c.args.pending (field_of c.args.cells) c.loop-set.table c.visit-found.new.table c.loop-set.found c.visit-found.result c.loop-set.set
-      (subst (λ n. c.loop-set.set < n) sets c.loop-set-test.true) c.visit-found.ensures c.loop-set.invariant
+    (subst (λ n. c.loop-set.set < n) sets c.loop-set-test.true) c.visit-found.ensures c.loop-set.invariant
 
 pub returns : goal.returns
 returns c = λ bit.
     let sets : 1 * 2 ^ length c.args.pieces.now % 2 ^ 64 ≡ 2 ^ length c.args.pieces.now = one_shl (length c.args.pieces.now) 64 (omega (arith, c.requires.few)) in
     walk_end c.args.pieces.now c.args.drops c.args.allowed.now c.args.pending (field_of c.args.cells) c.loop-set.table c.loop-set.found c.loop-set.set bit
-      (subst (λ n. n ≤ c.loop-set.set) sets c.loop-set-test.false) c.loop-set.invariant
+    (subst (λ n. n ≤ c.loop-set.set) sets c.loop-set-test.false) c.loop-set.invariant

@@ -1,5 +1,5 @@
 -- No hand, no cell left, and one more piece.
-use Rattle.std.proofs.Common.{sym, ap, subst, ◌∙◌, arith}
+use Rattle.std.proofs.Common.{sym, ap, subst, ◌∙◌}
 use Rattle.empty_cells.specs.Spans.{HasNoCell}
 use Rattle.build_orders.specs.Words.{field_of}
 use Rattle.build_orders.proofs.WalkLemmas.{empty_cells_of, some_cell, visit_carried, visit_found, visit_none}

@@ -1,6 +1,5 @@
 -- A cell of a row that is not gone.
 use Rattle.std.proofs.Common.{◌+◌, ◌*◌, not, ◌&&◌, ap, ap₂, sym, ◌∙◌}
-use Rattle.lane_board.specs.Lanes.{has_bit}
 use Rattle.build_orders.specs.Words.{is_filled}
 use Rattle.build_orders.proofs.WordBits.{field_at}
 use Rattle.build_orders.proofs.words.filled.Goals as goal

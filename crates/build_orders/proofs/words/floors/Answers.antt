@@ -1,6 +1,5 @@
 -- One row more.
 use Rattle.std.proofs.Common.{◌+◌, ◌*◌, not, ◌&&◌, ap, ap₂, ◌∙◌, arith}
-use Rattle.lane_board.specs.Lanes.{has_bit}
 use Rattle.build_orders.specs.Words.{field_of}
 use Rattle.build_orders.proofs.FloorSteps.{floors_next, floors_start, row_bit}
 use Rattle.build_orders.proofs.words.floors.Goals as goal

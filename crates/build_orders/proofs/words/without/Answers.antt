@@ -1,5 +1,5 @@
 -- The bits that are left.
-use Rattle.std.proofs.Common.{◌^◌, bit_and, arith}
+use Rattle.std.proofs.Common.{bit_and, arith}
 use Rattle.std.proofs.lemmas.Nat.{xor_lt, and_le_l}
 use Rattle.lane_board.proofs.CallerLemmas.{has_bit-and_not}
 use Rattle.build_orders.proofs.words.without.Goals as goal
