@@ -11,3 +11,4 @@ mod WalkLemmas
 mod WalkSteps
 mod OrderLemmas
 mod PieceLemmas
+mod EightSets

@@ -161,6 +161,21 @@ module _ (pieces : List Laid) (drops : Bool) (allowed : List ℕ) (pending : ℕ
       found_is = λ bit has. finds bit (is_one _ _ (sym (has_bit-or found more_found bit) ∙ has));
     }
 
+  -- no hand waits at some sets
+  pub walk_past : (table : List ℕ) (found m next : ℕ) → ((k : ℕ) → m ≤ k → k < next → slice_index table k ≡ 0) → Walked table found m → Walked table found next
+  walk_past table found m next none walked = record {
+    comes = λ bit pends some. past bit (walked.comes bit pends some);
+    came = walked.came;
+    found_is = walked.found_is;
+  }
+    where
+      past : (bit : ℕ) → (has_bit found bit ≡ true) ⊎ Waits table m bit → (has_bit found bit ≡ true) ⊎ Waits table next bit
+      past bit (inl has) = inl has
+      past bit (inr waits) = elim (cases_lt waits.set next) [
+        | inl low ↦ absurd (both_ways _ (ap (λ n. has_bit n bit) (none waits.set waits.from low) ∙ has_bit-zero bit) waits.has)
+        | inr high ↦ inr (record { set = waits.set; from = high; below = waits.below; has = waits.has; more = waits.more; goes = waits.goes })
+      ]
+
   pub walk_end : (table : List ℕ) (found m bit : ℕ) → 2 ^ length pieces ≤ m → Walked table found m → has_bit found bit ≡ true ↔ ((has_bit pending bit ≡ true) × HasOrder pieces drops allowed bit E)
   walk_end table found m bit past walked = (walked.found_is bit, λ both. no_more (walked.comes bit both.0 both.1))
     where

@@ -1,5 +1,5 @@
 // The walk over the sets of pieces.
-ghost use Rattle.std.specs.Prelude.{ℕ, ◌≡◌, ◌<◌, ◌≤◌, ◌^◌, ◌↔◌, length, slice_index, true};
+ghost use Rattle.std.specs.Prelude.{ℕ, ◌≡◌, ◌<◌, ◌≤◌, ◌+◌, ◌^◌, ◌↔◌, length, slice_index, true};
 ghost use Rattle.lane_board.specs.Lanes.{has_bit};
 ghost use Rattle.build_orders.specs.Orders.{
   Carries,
@@ -139,6 +139,25 @@ fn visit(
     0
 }
 
+/// A set up to which no hand waits: the one itself, or the eighth after it. Eight of them are looked at together.
+#[inline(always)]
+fn waiting_from(table: &[u64; 256], set: usize) -> usize
+    requires { set < 256 }
+    ensures from { set ≤ result }
+    ensures near { result ≤ set + 8 }
+    ensures none { (k : ℕ) → set ≤ k → k < result → slice_index table.now k ≡ 0 }
+{
+    if set % 8 != 0 {
+        return set;
+    }
+    let low = table[set] | table[set + 1] | table[set + 2] | table[set + 3];
+    let high = table[set + 4] | table[set + 5] | table[set + 6] | table[set + 7];
+    if low | high != 0 {
+        return set;
+    }
+    set + 8
+}
+
 /// The hands for which some order of the pieces uses up a set of cells.
 pub(crate) fn served(
     pieces: &[Laid],
@@ -155,8 +174,16 @@ pub(crate) fn served(
     let mut table = [0; 256];
     table[0] = pending;
     let mut found = 0;
-    for set in 0..1 << pieces.len() {
-        found |= visit(&mut table, set, pieces, cells, drops, allowed);
+    let sets = 1 << pieces.len();
+    let mut set = 0;
+    while set < sets {
+        let next = waiting_from(&table, set);
+        if next == set {
+            found |= visit(&mut table, set, pieces, cells, drops, allowed);
+            set += 1;
+        } else {
+            set = next;
+        }
     }
     found
 }
