@@ -8,6 +8,3 @@ mod walk;
 mod words;
 
 pub use hands::served_hands;
-
-#[cfg(test)]
-mod tests;

@@ -4,7 +4,6 @@ pub mod Answers
 -- What contracts cite beside these: views of values, and readings and tests, each with its law
 pub mod GoodHands
 pub mod OpenRows
-pub mod BuildOrders
 pub mod BuiltHands
 -- What serves proofs alone
 pub mod Hands

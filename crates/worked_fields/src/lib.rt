@@ -4,6 +4,8 @@
 #[cfg(test)]
 mod boards;
 #[cfg(test)]
+mod build_orders_of_tilings;
+#[cfg(test)]
 mod calls;
 #[cfg(test)]
 mod counts;

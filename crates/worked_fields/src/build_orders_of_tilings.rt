@@ -1,5 +1,5 @@
 // Hands that the one tiling of a small field serves.
-use crate::served_hands;
+use build_orders::served_hands;
 use empty_cells::Empties;
 use std::alloc::Global;
 use tiled_pieces::Lister;
