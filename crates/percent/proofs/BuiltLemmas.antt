@@ -37,8 +37,8 @@ use Rattle.empty_cells.proofs.CallerLemmas.{IsSmall, empty_within, not_without, 
 use Rattle.tiled_pieces.specs.TilingLists.{LaidPiece, laid_part}
 use Rattle.tiled_pieces.proofs.CallerLemmas.{LiesIn, left_by_part}
 use Rattle.percent.specs.declared.game.Game.{Game}
-use Rattle.build_orders.specs.Built.{AreBuilt, Fits, IsGone, Rests}
-use Rattle.build_orders.specs.Served.{left_by}
+use Rattle.tiled_pieces.specs.Built.{AreBuilt, Fits, IsGone, Rests}
+use Rattle.tiled_pieces.specs.Served.{left_by}
 use Rattle.percent.specs.BuiltHands.{IsBuiltBy, IsHardSrs, takes_all}
 use Rattle.percent.specs.Fitting.{supply_at}
 use Rattle.percent.specs.GoodHands.{is_good, reached_places}

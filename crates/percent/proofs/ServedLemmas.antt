@@ -13,7 +13,7 @@ use Rattle.hold_queue.specs.declared.hold.Hold.TheVariants.{Allowed, Avoided}
 use Rattle.prune.specs.Tiling.{Part, Supply}
 use Rattle.tiled_pieces.specs.declared.listed.ListedTiling.{ListedTiling}
 use Rattle.tiled_pieces.specs.TilingLists.{HasPiece, LaidPiece, ListsAll, laid_part}
-use Rattle.build_orders.specs.Served.{AreAllowed, IsServed, with_weight}
+use Rattle.tiled_pieces.specs.Served.{AreAllowed, IsServed, with_weight}
 use Rattle.percent.specs.BuiltHands.{AllowsTaken, IsBuiltBy, IsHardSrs, code_at, first_weights, takes_all, weight_of}
 use Rattle.percent.specs.declared.game.Game.{Game}
 use Rattle.percent.specs.declared.marks.Mark.{Mark}

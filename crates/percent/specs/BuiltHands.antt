@@ -13,8 +13,8 @@ use Rattle.empty_cells.specs.Empties.{all_but}
 use Rattle.empty_cells.specs.Spans.{HasNoCell}
 use Rattle.tiled_pieces.specs.TilingLists.{laid_part}
 use Rattle.percent.specs.declared.game.Game.{Game}
-use Rattle.build_orders.specs.Built.{AreBuilt}
-use Rattle.build_orders.specs.Served.{left_by}
+use Rattle.tiled_pieces.specs.Built.{AreBuilt}
+use Rattle.tiled_pieces.specs.Served.{left_by}
 use Rattle.percent.specs.Fitting.{supply_at}
 use Rattle.percent.specs.Hands.{takes}
 

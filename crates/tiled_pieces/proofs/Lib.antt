@@ -10,4 +10,17 @@ mod StepLemmas
 mod StandsLemmas
 mod StandingLemmas
 mod ListedAll
+mod WordBits
+mod BetweenRows
+mod BelowSteps
+mod FloorSteps
+mod RowTests
+mod FloorTests
+mod FitTests
+mod SetLemmas
+mod WalkLemmas
+mod WalkSteps
+mod OrderLemmas
+mod PieceLemmas
+mod EightSets
 pub mod CallerLemmas

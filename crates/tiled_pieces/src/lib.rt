@@ -1,15 +1,22 @@
-// All tilings of a set of empty cells, listed by a walk over them, and the tilings of a list that have a piece.
+// All tilings of a set of empty cells, listed by a walk over them; the tilings of a list that have a piece; and which
+// hands some order of a tiling's pieces serves.
 #![tactic(auto)]
 
 mod cover;
 mod dead;
+mod hands;
+mod laid;
+mod left;
 mod list;
 mod listed;
 mod lister;
 mod listing;
 mod path;
 mod standing;
+mod walk;
+mod words;
 
+pub use hands::served_hands;
 pub use list::TilingList;
 pub use listed::ListedTiling;
 pub use lister::Lister;

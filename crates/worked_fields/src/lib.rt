@@ -4,8 +4,6 @@
 #[cfg(test)]
 mod boards;
 #[cfg(test)]
-mod build_orders_of_tilings;
-#[cfg(test)]
 mod calls;
 #[cfg(test)]
 mod counts;
@@ -29,6 +27,8 @@ mod moves_and_keys;
 mod numbers;
 #[cfg(test)]
 mod numbers_of_placements;
+#[cfg(test)]
+mod orders_of_pieces;
 #[cfg(test)]
 mod patterns;
 #[cfg(test)]

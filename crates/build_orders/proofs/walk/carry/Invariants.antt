@@ -1,8 +1,0 @@
--- The pieces so far.
-use Rattle.std.proofs.Common.{◌≡◌, length}
-use Rattle.build_orders.specs.Orders.{Carries}
-use Rattle.build_orders.specs.Words.{field_of}
-use Rattle.build_orders.proofs.walk.carry.Given as goal
-
-abbrev pub invariant-loop-index : goal.invariant-loop-index
-invariant-loop-index l = (length l.table ≡ 256) × Carries l.pieces l.left.drops l.allowed l.hands l.set (field_of l.left.cells) l.number l.initial.table l.table l.index

@@ -1,6 +1,0 @@
--- Eight sets together.
-use Rattle.build_orders.proofs.EightSets.{none_of_eight}
-use Rattle.build_orders.proofs.walk.waiting_from.Goals as goal
-
-pub returns-clause-none : goal.returns-clause-none
-returns-clause-none c = none_of_eight c.args.table.now c.args.set c.if-low-high-ne0.false

@@ -1,6 +1,0 @@
--- The bits of ten columns, taken together by pairs.
-use Rattle.build_orders.proofs.WordBits.{rows_bit}
-use Rattle.build_orders.proofs.words.rows_of.Goals as goal
-
-pub returns : goal.returns
-returns c = λ y low. rows_bit c.args.cells y low

@@ -1,6 +1,0 @@
--- What a reader must believe
-pub mod Built
-pub mod Served
--- What contracts cite beside these: views of values, and tests
-pub mod Words
-pub mod Orders
