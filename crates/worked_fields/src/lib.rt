@@ -1,26 +1,14 @@
-// Worked cases of the libraries of the field, of queues and of the search.
+// Worked cases of the libraries of the field, of queues and of tilings.
 #![tactic(auto)]
 
 #[cfg(test)]
 mod boards;
 #[cfg(test)]
-mod calls;
-#[cfg(test)]
 mod counts;
-#[cfg(test)]
-mod cover_sets;
 #[cfg(test)]
 mod dead_questions;
 #[cfg(test)]
-mod good_queues;
-#[cfg(test)]
-mod good_queues_as_bits;
-#[cfg(test)]
-mod key_words;
-#[cfg(test)]
 mod listed_tilings;
-#[cfg(test)]
-mod longest_runs;
 #[cfg(test)]
 mod moves_and_keys;
 #[cfg(test)]
@@ -37,8 +25,6 @@ mod pieces;
 mod places;
 #[cfg(test)]
 mod queues;
-#[cfg(test)]
-mod searches;
 #[cfg(test)]
 mod tables;
 #[cfg(test)]

@@ -1,0 +1,1 @@
+-- It has no definitions of its own.

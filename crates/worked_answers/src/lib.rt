@@ -1,0 +1,17 @@
+// Worked cases of the search and of the answers about queues.
+#![tactic(auto)]
+
+#[cfg(test)]
+mod calls;
+#[cfg(test)]
+mod cover_sets;
+#[cfg(test)]
+mod good_queues;
+#[cfg(test)]
+mod good_queues_as_bits;
+#[cfg(test)]
+mod key_words;
+#[cfg(test)]
+mod longest_runs;
+#[cfg(test)]
+mod searches;
