@@ -45,23 +45,23 @@ not_one : (n : ℕ) → n < 2 → (n == 1) ≡ false → n ≡ 0
 not_one n small other = grind (arith, nat_tests)
 
 -- a number without a bit is 0
-pub word_none : (word : ℕ) → word < 2 ^ 64 → (IsTrue (nat_eq word 0)) ↔ ((place : ℕ) → place < 64 → (bit_at word place == 1) ≡ false)
-word_none word small = (λ none place within. ap (λ w. bit_at w place == 1) (eqb-true word 0 none) ∙ no_bit place, λ none. eq-eqb word 0 (empty none))
+pub word_none : (word : ℕ) → word < 2 ^ 64 → (IsTrue (nat_eq word 0)) ↔ ((index : ℕ) → index < 64 → (bit_at word index == 1) ≡ false)
+word_none word small = (λ none index within. ap (λ w. bit_at w index == 1) (eqb-true word 0 none) ∙ no_bit index, λ none. eq-eqb word 0 (empty none))
   where
-    empty : ((place : ℕ) → place < 64 → (bit_at word place == 1) ≡ false) → word ≡ 0
+    empty : ((index : ℕ) → index < 64 → (bit_at word index == 1) ≡ false) → word ≡ 0
     empty none = same_from_bits_below 64 word 0 small (lit< tt) (λ k within. not_one (bit_at word k) (bit_at-lt word k) (none k within) ∙ sym (bit_at-zero k))
 
 -- a family without a set has numbers without a bit
-pub family_none : (family : Family) → ((place : ℕ) → place < 64 → (bit_at family.low place == 1) ≡ false) → ((place : ℕ) → place < 64 → (bit_at family.high place == 1) ≡ false)
+pub family_none : (family : Family) → ((index : ℕ) → index < 64 → (bit_at family.low index == 1) ≡ false) → ((index : ℕ) → index < 64 → (bit_at family.high index == 1) ≡ false)
     → (set : ℕ) → set < 128 → has_set family set ≡ false
 family_none family low high set within = search (rules, cases_lt, has_set-low, has_set-high)
 
-pub low_none : (family : Family) → ((set : ℕ) → set < 128 → has_set family set ≡ false) → (place : ℕ) → place < 64 → (bit_at family.low place == 1) ≡ false
-low_none family none place within = sym (has_set-low family place within) ∙ none place (omega arith)
+pub low_none : (family : Family) → ((set : ℕ) → set < 128 → has_set family set ≡ false) → (index : ℕ) → index < 64 → (bit_at family.low index == 1) ≡ false
+low_none family none index within = sym (has_set-low family index within) ∙ none index (omega arith)
 
-pub high_none : (family : Family) → ((set : ℕ) → set < 128 → has_set family set ≡ false) → (place : ℕ) → place < 64 → (bit_at family.high place == 1) ≡ false
-high_none family none place within =
-    ap (λ n. bit_at family.high n == 1) (omega arith) ∙ sym (has_set-high family (place + 64) (omega arith)) ∙ none (place + 64) (omega arith)
+pub high_none : (family : Family) → ((set : ℕ) → set < 128 → has_set family set ≡ false) → (index : ℕ) → index < 64 → (bit_at family.high index == 1) ≡ false
+high_none family none index within =
+    ap (λ n. bit_at family.high n == 1) (omega arith) ∙ sym (has_set-high family (index + 64) (omega arith)) ∙ none (index + 64) (omega arith)
 
 -- the family of the empty set alone
 pub has_set-one : (set : ℕ) → set < 128 → has_set (made 1 0) set ≡ (set == 0)
@@ -72,20 +72,20 @@ bit_at-mod : (n k : ℕ) → k < 64 → bit_at (n % 2 ^ 64) k ≡ bit_at n k
 bit_at-mod n k within = sym (bit_at_cat_low (n / 2 ^ 64) 64 (n % 2 ^ 64) k within) ∙ ap (λ m. bit_at m k) (omega arith)
 
 -- the bits of a number that a mask lets through, moved up
-shifted : (word mask by k place : ℕ) → place < 64 → (by ≤ place → bit_at mask (place - by) ≡ bit_at place k) → (place < by → bit_at place k ≡ 0)
-    → (bit_at (bit_and word mask * 2 ^ by % 2 ^ 64) place == 1) ≡ ((bit_at place k == 1) && (bit_at word (place - by) == 1))
-shifted word mask by k place within there none = elim (cases_lt place by) [
+shifted : (word mask by k index : ℕ) → index < 64 → (by ≤ index → bit_at mask (index - by) ≡ bit_at index k) → (index < by → bit_at index k ≡ 0)
+    → (bit_at (bit_and word mask * 2 ^ by % 2 ^ 64) index == 1) ≡ ((bit_at index k == 1) && (bit_at word (index - by) == 1))
+shifted word mask by k index within there none = elim (cases_lt index by) [
   | inl below ↦
-      let bits : bit_at (bit_and word mask * 2 ^ by % 2 ^ 64) place ≡ 0 =
-      bit_at-mod (bit_and word mask * 2 ^ by) place within ∙ ap (λ n. bit_at n place) (sum_zero (bit_and word mask * 2 ^ by))
-      ∙ bit_at_cat_low (bit_and word mask) by 0 place below ∙ bit_at-zero place in
-      ap (λ n. n == 1) bits ∙ sym (ap (λ n. (n == 1) && (bit_at word (place - by) == 1)) (none below))
+      let bits : bit_at (bit_and word mask * 2 ^ by % 2 ^ 64) index ≡ 0 =
+      bit_at-mod (bit_and word mask * 2 ^ by) index within ∙ ap (λ n. bit_at n index) (sum_zero (bit_and word mask * 2 ^ by))
+      ∙ bit_at_cat_low (bit_and word mask) by 0 index below ∙ bit_at-zero index in
+      ap (λ n. n == 1) bits ∙ sym (ap (λ n. (n == 1) && (bit_at word (index - by) == 1)) (none below))
   | inr above ↦
-      let bits : bit_at (bit_and word mask * 2 ^ by % 2 ^ 64) place ≡ min (bit_at word (place - by)) (bit_at place k) =
-      bit_at-mod (bit_and word mask * 2 ^ by) place within ∙ ap (λ n. bit_at n place) (sum_zero (bit_and word mask * 2 ^ by))
-      ∙ bit_at_cat_high (bit_and word mask) by 0 place (pow_pos by) above ∙ bit_at_and word mask (place - by)
-      ∙ ap (min (bit_at word (place - by))) (there above) in
-      ap (λ n. n == 1) bits ∙ min_of_bits (bit_at word (place - by)) (bit_at place k) (bit_at-lt word (place - by)) (bit_at-lt place k)
+      let bits : bit_at (bit_and word mask * 2 ^ by % 2 ^ 64) index ≡ min (bit_at word (index - by)) (bit_at index k) =
+      bit_at-mod (bit_and word mask * 2 ^ by) index within ∙ ap (λ n. bit_at n index) (sum_zero (bit_and word mask * 2 ^ by))
+      ∙ bit_at_cat_high (bit_and word mask) by 0 index (pow_pos by) above ∙ bit_at_and word mask (index - by)
+      ∙ ap (min (bit_at word (index - by))) (there above) in
+      ap (λ n. n == 1) bits ∙ min_of_bits (bit_at word (index - by)) (bit_at index k) (bit_at-lt word (index - by)) (bit_at-lt index k)
 ]
   where
     sum_zero : (n : ℕ) → n ≡ n + 0
@@ -93,14 +93,14 @@ shifted word mask by k place within there none = elim (cases_lt place by) [
 
 -- what the masks and numbers of sets have to do with each other, tried at each set
 abbrev lines_up : ℕ → ℕ → ℕ → Bool
-lines_up mask k place =
-    (nat_lt place (2 ^ k) && (bit_at place k == 0)) || (nat_le (2 ^ k) place && (bit_at mask (place - 2 ^ k) == bit_at place k))
+lines_up mask k index =
+    (nat_lt index (2 ^ k) && (bit_at index k == 0)) || (nat_le (2 ^ k) index && (bit_at mask (index - 2 ^ k) == bit_at index k))
 
 abbrev high_lines_up : ℕ → ℕ → Bool
 high_lines_up k set = nat_lt set 64 || ((bit_at (set - 64) k == bit_at set k) && ((bit_at set k == 0) || nat_le 64 (set - 2 ^ k)))
 
-lined_up : (mask k place : ℕ) → lines_up mask k place ≡ true → (2 ^ k ≤ place → bit_at mask (place - 2 ^ k) ≡ bit_at place k) × (place < 2 ^ k → bit_at place k ≡ 0)
-lined_up mask k place fits = (λ above. grind (arith, nat_tests), λ below. grind (arith, nat_tests))
+lined_up : (mask k index : ℕ) → lines_up mask k index ≡ true → (2 ^ k ≤ index → bit_at mask (index - 2 ^ k) ≡ bit_at index k) × (index < 2 ^ k → bit_at index k ≡ 0)
+lined_up mask k index fits = (λ above. grind (arith, nat_tests), λ below. grind (arith, nat_tests))
 
 same_high : (k set : ℕ) → 64 ≤ set → high_lines_up k set ≡ true → (bit_at (set - 64) k ≡ bit_at set k) × (bit_at set k ≡ 1 → 64 ≤ set - 2 ^ k)
 same_high k set above fits = (grind (arith, nat_tests), λ has. grind (arith, nat_tests))
@@ -129,17 +129,17 @@ abbrev masks : List ℕ
 masks = 6148914691236517205 ∷ 3689348814741910323 ∷ 1085102592571150095 ∷ 71777214294589695 ∷ 281470681808895 ∷ 4294967295 ∷ []
 
 -- the sets that lack a piece, with it, as words are moved
-pub has_set-with : (family : Family) (piece : Piece) (place : ℕ) → place ≡ piece_code piece - 1 → (piece ≡ S → ⊥) → (set : ℕ) → set < 128
-    → has_set (made (bit_and family.low (get_or masks place 0) * 2 ^ (1 * 2 ^ place % 2 ^ 32) % 2 ^ 64) (bit_and family.high (get_or masks place 0) * 2 ^ (1 * 2 ^ place % 2 ^ 32) % 2 ^ 64)) set
+pub has_set-with : (family : Family) (piece : Piece) (index : ℕ) → index ≡ piece_code piece - 1 → (piece ≡ S → ⊥) → (set : ℕ) → set < 128
+    → has_set (made (bit_and family.low (get_or masks index 0) * 2 ^ (1 * 2 ^ index % 2 ^ 32) % 2 ^ 64) (bit_and family.high (get_or masks index 0) * 2 ^ (1 * 2 ^ index % 2 ^ 32) % 2 ^ 64)) set
     ≡ with_piece piece (has_set family) set
 unfolding with_piece
-has_set-with family I place is other set within = rw is (moved_up family 6148914691236517205 0 (omega arith) (λ s. agree_below_at (lines_up 6148914691236517205 0) (λ _. true) 64 s refl) (λ s. agree_below_at (high_lines_up 0) (λ _. true) 128 s refl) set within)
-has_set-with family L place is other set within = rw is (moved_up family 3689348814741910323 1 (omega arith) (λ s. agree_below_at (lines_up 3689348814741910323 1) (λ _. true) 64 s refl) (λ s. agree_below_at (high_lines_up 1) (λ _. true) 128 s refl) set within)
-has_set-with family O place is other set within = rw is (moved_up family 1085102592571150095 2 (omega arith) (λ s. agree_below_at (lines_up 1085102592571150095 2) (λ _. true) 64 s refl) (λ s. agree_below_at (high_lines_up 2) (λ _. true) 128 s refl) set within)
-has_set-with family Z place is other set within = rw is (moved_up family 71777214294589695 3 (omega arith) (λ s. agree_below_at (lines_up 71777214294589695 3) (λ _. true) 64 s refl) (λ s. agree_below_at (high_lines_up 3) (λ _. true) 128 s refl) set within)
-has_set-with family T place is other set within = rw is (moved_up family 281470681808895 4 (omega arith) (λ s. agree_below_at (lines_up 281470681808895 4) (λ _. true) 64 s refl) (λ s. agree_below_at (high_lines_up 4) (λ _. true) 128 s refl) set within)
-has_set-with family J place is other set within = rw is (moved_up family 4294967295 5 (omega arith) (λ s. agree_below_at (lines_up 4294967295 5) (λ _. true) 64 s refl) (λ s. agree_below_at (high_lines_up 5) (λ _. true) 128 s refl) set within)
-has_set-with family S place is other set within = absurd (other refl)
+has_set-with family I index is other set within = rw is (moved_up family 6148914691236517205 0 (omega arith) (λ s. agree_below_at (lines_up 6148914691236517205 0) (λ _. true) 64 s refl) (λ s. agree_below_at (high_lines_up 0) (λ _. true) 128 s refl) set within)
+has_set-with family L index is other set within = rw is (moved_up family 3689348814741910323 1 (omega arith) (λ s. agree_below_at (lines_up 3689348814741910323 1) (λ _. true) 64 s refl) (λ s. agree_below_at (high_lines_up 1) (λ _. true) 128 s refl) set within)
+has_set-with family O index is other set within = rw is (moved_up family 1085102592571150095 2 (omega arith) (λ s. agree_below_at (lines_up 1085102592571150095 2) (λ _. true) 64 s refl) (λ s. agree_below_at (high_lines_up 2) (λ _. true) 128 s refl) set within)
+has_set-with family Z index is other set within = rw is (moved_up family 71777214294589695 3 (omega arith) (λ s. agree_below_at (lines_up 71777214294589695 3) (λ _. true) 64 s refl) (λ s. agree_below_at (high_lines_up 3) (λ _. true) 128 s refl) set within)
+has_set-with family T index is other set within = rw is (moved_up family 281470681808895 4 (omega arith) (λ s. agree_below_at (lines_up 281470681808895 4) (λ _. true) 64 s refl) (λ s. agree_below_at (high_lines_up 4) (λ _. true) 128 s refl) set within)
+has_set-with family J index is other set within = rw is (moved_up family 4294967295 5 (omega arith) (λ s. agree_below_at (lines_up 4294967295 5) (λ _. true) 64 s refl) (λ s. agree_below_at (high_lines_up 5) (λ _. true) 128 s refl) set within)
+has_set-with family S index is other set within = absurd (other refl)
 
 -- the sets that lack S, with it
 pub has_set-with_s : (family : Family) (set : ℕ) → set < 128 → has_set (made 0 family.low) set ≡ with_piece S (has_set family) set

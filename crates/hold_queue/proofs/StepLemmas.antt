@@ -217,11 +217,11 @@ module _ (elements : List Element) (start : Option Piece) (states : List ℕ) (p
       goes queue held_before before (inr (inr same)) rest = goes_second queue (inr (refl, at held_before None before (first ∷ piece ∷ queue) same.0 same.1 rest))
 
 -- a draw that a call made, in the numbers of the states
-pub drawn_by_draw : {draw place : Option Draw} {piece : Piece} {before after : Family} → IsDrawn draw piece before after → draw ≡ place → IsDrawn place piece before after
+pub drawn_by_draw : {draw other : Option Draw} {piece : Piece} {before after : Family} → IsDrawn draw piece before after → draw ≡ other → IsDrawn other piece before after
 drawn_by_draw {piece = piece} {before = before} {after = after} drawn is = subst (λ d. IsDrawn d piece before after) is drawn
 
-pub drawn_at : {draw place : Option Draw} {piece : Piece} {family before after : Family} → IsDrawn draw piece family after → draw ≡ place → family ≡ before → IsDrawn place piece before after
-drawn_at {place = place} {piece = piece} {after = after} drawn is same = subst (λ f. IsDrawn place piece f after) same (drawn_by_draw drawn is)
+pub drawn_at : {draw other : Option Draw} {piece : Piece} {family before after : Family} → IsDrawn draw piece family after → draw ≡ other → family ≡ before → IsDrawn other piece before after
+drawn_at {other = other} {piece = piece} {after = after} drawn is same = subst (λ f. IsDrawn other piece f after) same (drawn_by_draw drawn is)
 
 -- the families of eight pairs of numbers
 pub each_held : (P : Option Piece → Family → Type 0) (none i l o z t j s : Family)

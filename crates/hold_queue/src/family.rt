@@ -52,7 +52,7 @@ pub fn in_progress(pattern: &Pattern, drawn: u8) -> Option<Draw>
 
 /// Whether a number has no bit set.
 fn has_none(bits: u64) -> bool
-    ensures { IsTrue result ↔ ((place : ℕ) → place < 64 → (bit_at bits place == 1) ≡ false) }
+    ensures { IsTrue result ↔ ((index : ℕ) → index < 64 → (bit_at bits index == 1) ≡ false) }
 {
     bits == 0
 }
@@ -88,9 +88,9 @@ impl Family {
                 high: self.low,
             };
         }
-        let place = piece.code() - 1;
-        let lacking = LACKING[place as usize];
-        let by = 1_u32 << place;
+        let index = piece.code() - 1;
+        let lacking = LACKING[index as usize];
+        let by = 1_u32 << index;
         Family {
             low: (self.low & lacking) << by,
             high: (self.high & lacking) << by,

@@ -8,7 +8,7 @@ ghost use Rattle.hold_queue.specs.States.{AreDue, AreStatesAfter, drawn_by, in_p
 use crate::family::{Draw, in_progress};
 use crate::hold::Hold;
 use crate::memory::{Following, QueueMemory};
-use crate::states::{Draws, States, hash_of, place_of};
+use crate::states::{Draws, States, hash_of, index_of};
 use crate::supply::{count_played, elements_with, from_hold};
 use queue_pattern::{Pattern, Queue};
 use srs::Piece;
@@ -47,7 +47,7 @@ impl QueueSet {
             ≡ record { elements = elements_of pattern.now; hold = hold; held = held; played = [] } }
     {
         let mut words = [0; 16];
-        words[place_of(held)] = 1;
+        words[index_of(held)] = 1;
         let due = Draws {
             empty_handed: in_progress(pattern, 0),
             holding: drawn_holding(pattern, held, 0),

@@ -73,7 +73,7 @@ impl Families {
 }
 
 /// The index of the two numbers for what is held among the states.
-pub fn place_of(held: Option<Piece>) -> usize
+pub fn index_of(held: Option<Piece>) -> usize
     ensures value { result ≡ 2 * held_code held }
     ensures within { result ≤ 14 }
 {
@@ -87,10 +87,10 @@ pub fn place_of(held: Option<Piece>) -> usize
 fn family_of(words: &[u64; 16], held: Option<Piece>) -> Family
     ensures { result ≡ family_at words.now held }
 {
-    let place = place_of(held);
+    let index = index_of(held);
     Family {
-        low: words[place],
-        high: words[place + 1],
+        low: words[index],
+        high: words[index + 1],
     }
 }
 

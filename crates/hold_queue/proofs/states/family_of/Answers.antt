@@ -5,8 +5,8 @@ use Rattle.hold_queue.specs.States.{family_at}
 use Rattle.hold_queue.proofs.states.family_of.Goals as goal
 
 words_at : List ℕ → ℕ → Family
-words_at states place = record { low = get_or states place 0; high = get_or states (place + 1) 0 }
+words_at states index = record { low = get_or states index 0; high = get_or states (index + 1) 0 }
 
 pub returns : goal.returns
 unfolding family_at words_at
-returns c = ap (words_at c.args.words.now) c.place_of-place.ensures.value
+returns c = ap (words_at c.args.words.now) c.index_of-index.ensures.value

@@ -7,4 +7,4 @@ pub returns-in-S : goal.returns-in-S
 returns-in-S c = λ set within. rw c.in-S.is (has_set-with_s c.args.self set within)
 
 pub returns : goal.returns
-returns c = λ set within. has_set-with c.args.self c.args.piece (c.code-place.result - 1) (ap (λ n. n - 1) c.code-place.ensures) c.in_default.not-S set within
+returns c = λ set within. has_set-with c.args.self c.args.piece (c.code-index.result - 1) (ap (λ n. n - 1) c.code-index.ensures) c.in_default.not-S set within

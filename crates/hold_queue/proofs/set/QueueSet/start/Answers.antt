@@ -11,8 +11,8 @@ pub invariant_of-set : goal.invariant_of-set
 invariant_of-set c = record {
   room = refl;
   within = omega arith;
-  follows = subst (λ place. AreStatesAfter (elements_of c.args.pattern.now) c.args.hold c.args.held
-      (list_set (0 ∷ 0 ∷ 0 ∷ 0 ∷ 0 ∷ 0 ∷ 0 ∷ 0 ∷ 0 ∷ 0 ∷ 0 ∷ 0 ∷ 0 ∷ 0 ∷ 0 ∷ 0 ∷ []) place 1) []) (sym c.place_of.ensures.value)
+  follows = subst (λ index. AreStatesAfter (elements_of c.args.pattern.now) c.args.hold c.args.held
+      (list_set (0 ∷ 0 ∷ 0 ∷ 0 ∷ 0 ∷ 0 ∷ 0 ∷ 0 ∷ 0 ∷ 0 ∷ 0 ∷ 0 ∷ 0 ∷ 0 ∷ 0 ∷ 0 ∷ []) index 1) []) (sym c.index_of.ensures.value)
       (follows-start (elements_of c.args.pattern.now) c.args.hold c.args.held (pattern-some c.args.pattern.now));
   due = search rules;
 }
