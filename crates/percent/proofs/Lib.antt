@@ -17,3 +17,5 @@ mod SpreadLemmas
 mod RestingLemmas
 mod BuiltLemmas
 mod ServedLemmas
+mod AllowingLemmas
+mod BuildingLemmas

@@ -14,3 +14,4 @@ pub mod Spread
 pub mod Marks
 pub mod Wanted
 pub mod Standing
+pub mod Building

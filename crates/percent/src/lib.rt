@@ -1,8 +1,10 @@
 // How many queues of a pattern have a perfect clear, found for all of them at once.
 #![tactic(auto)]
 
+mod allowing;
 mod answered;
 mod answers;
+mod building;
 mod children;
 mod fitting;
 mod game;
