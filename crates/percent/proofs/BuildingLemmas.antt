@@ -1,5 +1,5 @@
 -- Hands that no listed tiling of their mark serves are not good.
-use Rattle.std.proofs.Common.{◌≡◌, ◌↔◌, ℕ, suc, ◌+◌, ◌<◌, ◌≤◌, ◌×◌, Bool, true, false, not, ◌&&◌, bit_and, bit_xor, List, [], ◌∷◌, ◌++◌, length, length-append, length-set, get_or, take, replicate, refl, sym, ap, subst, ◌∙◌, inl, inr, arith}
+use Rattle.std.proofs.Common.{◌≡◌, ◌↔◌, ℕ, suc, ◌+◌, ◌<◌, ◌≤◌, Bool, true, false, not, ◌&&◌, bit_and, bit_xor, List, [], ◌∷◌, ◌++◌, length, length-append, length-set, get_or, take, replicate, refl, sym, ap, subst, ◌∙◌, inl, inr, arith}
 use Rattle.std.proofs.Common.{set as list_set}
 use Rattle.std.specs.Prelude.{All, Contains, Option, Some, None, IfSome, slice_get}
 use Rattle.std.proofs.lemmas.Bool.{and_parts, cases_eq, cases_lt, false≢true, not-true, true_from_ne_false}

@@ -1,6 +1,7 @@
 // The hands that may be good because a listed tiling serves them: its pieces can be put in place one after the other, in
 // an order that the hand permits.
-ghost use Rattle.std.specs.Prelude.{◌≡◌, ◌≤◌, length, true};
+ghost use Rattle.std.specs.Prelude.{◌≡◌, ◌≤◌, ◌<◌, Some, length, true};
+ghost use Rattle.lane_board.specs.Lanes.{has_bit};
 ghost use Rattle.percent.specs.BuiltHands.{IsHardSrs};
 
 use crate::allowing::{sums_of, weights_of};
@@ -64,7 +65,7 @@ impl Question {
 }
 
 impl Block {
-    ghost use Rattle.std.specs.Prelude.{ℕ, ◌<◌, ◌+◌, slice_index, slice_set};
+    ghost use Rattle.std.specs.Prelude.{ℕ, ◌+◌, slice_index, slice_set};
     ghost use Rattle.percent.specs.declared.marks.Mark.{Mark};
     ghost use Rattle.percent.specs.Building.{IsBlock};
 
@@ -108,8 +109,7 @@ fn lowest(count: usize) -> u64 {
 }
 
 impl Mark {
-    ghost use Rattle.std.specs.Prelude.{ℕ, ◌<◌, slice_index};
-    ghost use Rattle.lane_board.specs.Lanes.{has_bit};
+    ghost use Rattle.std.specs.Prelude.{ℕ, slice_index};
     ghost use Rattle.empty_cells.specs.Empties.{empty_cells};
     ghost use Rattle.percent.specs.Building.{IsRefused};
 
@@ -135,7 +135,17 @@ impl Mark {
     }
 }
 
+/// Whether a bit is set.
+#[inline(always)]
+fn has(bits: u64, k: usize) -> bool
+    requires { k < 64 }
+    ensures { result ≡ has_bit bits k }
+{
+    bits >> k & 1 == 1
+}
+
 /// Whether the index is known, and this one.
+#[inline(always)]
 fn is_index(known: Option<u8>, index: usize) -> bool
     ensures { result ≡ true → known ≡ Some index }
 {
@@ -146,7 +156,7 @@ fn is_index(known: Option<u8>, index: usize) -> bool
 }
 
 impl Marks {
-    ghost use Rattle.std.specs.Prelude.{ℕ, ◌+◌, ◌<◌, ◌&&◌, IfOk, vec_len};
+    ghost use Rattle.std.specs.Prelude.{ℕ, ◌&&◌, IfOk, vec_len};
     ghost use Rattle.well.specs.Well.{filled};
     ghost use Rattle.empty_cells.specs.Empties.{empty_cells};
     ghost use Rattle.number_sets.specs.Rising.{IsRising, has};
@@ -190,7 +200,7 @@ impl Marks {
         let gathered = block.hands_among(hands);
         let unserved = mark.unserved(&self.cells, question, &gathered[..block.len]);
         for k in 0..block.len {
-            if unserved >> k & 1 == 1 {
+            if has(unserved, k) {
                 may[block.indexes[k]] = false;
             }
         }

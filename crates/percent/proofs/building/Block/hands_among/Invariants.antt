@@ -1,4 +1,4 @@
-use Rattle.std.proofs.Common.{◌≡◌, ℕ, ◌<◌, ◌×◌, get_or, length}
+use Rattle.std.proofs.Common.{◌≡◌, ℕ, ◌<◌, get_or, length}
 use Rattle.percent.proofs.building.Block.hands_among.Given as goal
 
 abbrev pub invariant-loop-k : goal.invariant-loop-k
