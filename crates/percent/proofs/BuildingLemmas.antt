@@ -1,9 +1,9 @@
 -- Hands that no listed tiling of their mark serves are not good.
-use Rattle.std.proofs.Common.{◌≡◌, ◌↔◌, ℕ, suc, ◌+◌, ◌<◌, ◌≤◌, Bool, true, false, not, ◌&&◌, bit_and, bit_xor, List, [], ◌∷◌, ◌++◌, length, length-append, length-set, get_or, take, replicate, refl, sym, ap, subst, ◌∙◌, inl, inr, arith}
+use Rattle.std.proofs.Common.{◌≡◌, ◌↔◌, ℕ, ◌+◌, ◌<◌, ◌≤◌, Bool, true, false, not, bit_and, bit_xor, List, [], ◌∷◌, ◌++◌, length, length-append, length-set, get_or, take, replicate, sym, ap, subst, ◌∙◌, inl, inr, arith}
 use Rattle.std.proofs.Common.{set as list_set}
-use Rattle.std.specs.Prelude.{All, Contains, Option, Some, None, IfSome, slice_get}
-use Rattle.std.proofs.lemmas.Bool.{and_parts, cases_eq, cases_lt, false≢true, not-true, true_from_ne_false}
-use Rattle.std.proofs.lemmas.List.{get_or_append_left, get_or_default, get_or_push, get_or-set_other, get_or-replicate, length-replicate, take_all, take_more}
+use Rattle.std.specs.Prelude.{Contains, Option, Some, None, IfSome, slice_get}
+use Rattle.std.proofs.lemmas.Bool.{and_parts, cases_eq, cases_lt, false≢true, not-true}
+use Rattle.std.proofs.lemmas.List.{get_or_append_left, get_or_push, get_or-set_other, get_or-replicate, length-replicate, take_all, take_more}
 use Rattle.std.proofs.lemmas.List.Elements.{Contains-push_cases}
 use Rattle.std.proofs.lemmas.Grind.{get_or-set_at}
 use Rattle.lane_board.specs.Field.{Field}
@@ -11,7 +11,6 @@ use Rattle.lane_board.specs.Lanes.{has_bit}
 use Rattle.lane_board.proofs.CallerLemmas.{has_bit-and_not}
 use Rattle.srs.proofs.CallerLemmas.{some_same}
 use Rattle.well.specs.Well.{filled}
-use Rattle.hold_queue.specs.declared.hold.Hold.{Hold}
 use Rattle.empty_cells.specs.declared.empties.Empties.{Empties}
 use Rattle.empty_cells.specs.Empties.{empty_cells}
 use Rattle.tiled_pieces.specs.declared.listed.ListedTiling.{ListedTiling}
@@ -20,13 +19,11 @@ use Rattle.percent.specs.declared.building.Block.{Block}
 use Rattle.percent.specs.declared.building.Question.{Question}
 use Rattle.percent.specs.declared.marks.Mark.{Mark}
 use Rattle.percent.specs.declared.position.Position.{Position}
-use Rattle.percent.specs.BuiltHands.{AllowsTaken}
 use Rattle.percent.specs.Building.{AreMarksFor, AreNoted, AreTested, IsBlock, IsEnough, IsHandOf, IsMarkFor, IsRefused}
 use Rattle.percent.specs.Fitting.{codes_in}
 use Rattle.percent.specs.GoodHands.{is_good}
 use Rattle.percent.specs.Marks.{HasMarkAt, IsTrueMark}
 use Rattle.percent.specs.Spread.{IsSpread}
-use Rattle.percent.proofs.MarkLemmas.{marked_at}
 use Rattle.percent.proofs.ServedLemmas.{unserved-bad}
 
 -- ---- one tiling after the other

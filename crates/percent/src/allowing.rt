@@ -66,13 +66,7 @@ fn allow_first(allowed: &mut Sums, weights: &[u16; 8], left: u8, hand: u64, bit:
 }
 
 /// Sets a hand's bit at the sums of its first `count` pieces but one, and says whether all of them have a place.
-fn allow_all_but_one(
-    allowed: &mut Sums,
-    weights: &[u16; 8],
-    count: u8,
-    hand: u64,
-    bit: u8,
-) -> bool
+fn allow_all_but_one(allowed: &mut Sums, weights: &[u16; 8], count: u8, hand: u64, bit: u8) -> bool
     requires { bit < 64 }
     ensures kept { KeepsBits allowed.old allowed.new }
     ensures allows { result ≡ true → (index sum : ℕ) → index < count
@@ -107,14 +101,7 @@ fn allow_held(allowed: &mut Sums, weights: &[u16; 8], left: u8, hand: u64, bit: 
 }
 
 /// Sets a hand's bit at the sums of the pieces that can be taken from it, and says whether all of them have a place.
-fn allow(
-    allowed: &mut Sums,
-    hold: Hold,
-    weights: &[u16; 8],
-    left: u8,
-    hand: u64,
-    bit: u8,
-) -> bool
+fn allow(allowed: &mut Sums, hold: Hold, weights: &[u16; 8], left: u8, hand: u64, bit: u8) -> bool
     requires few { left ≤ 20 }
     requires bit { bit < 64 }
     ensures kept { KeepsBits allowed.old allowed.new }

@@ -105,7 +105,11 @@ impl Block {
 
 /// The lowest `count` bits.
 fn lowest(count: usize) -> u64 {
-    if count < 64 { (1 << count) - 1 } else { u64::MAX }
+    if count < 64 {
+        (1 << count) - 1
+    } else {
+        u64::MAX
+    }
 }
 
 impl Mark {
@@ -165,12 +169,7 @@ impl Marks {
     ghost use Rattle.percent.specs.Marks.{IsTrueMark};
 
     /// The index of the mark of each hand, if there is one.
-    fn indexes(
-        &self,
-        alloc: Global,
-        left: u8,
-        hands: &[u64],
-    ) -> Result<Vec<Option<u8>>, NoMemory>
+    fn indexes(&self, alloc: Global, left: u8, hands: &[u64]) -> Result<Vec<Option<u8>>, NoMemory>
         requires { left ≤ 20 }
         ensures { IfOk result (λ v. AreMarksFor self.now.known.items left hands.now v.items) }
     {

@@ -1,5 +1,5 @@
 -- The whole less one weight more.
-use Rattle.std.proofs.Common.{◌-◌, ap, ◌∙◌, arith}
+use Rattle.std.proofs.Common.{◌-◌, ap, ◌∙◌}
 use Rattle.percent.proofs.AllowingLemmas.{but-one-more}
 use Rattle.percent.proofs.allowing.allow_all_but_one.Goals as goal
 

@@ -1,5 +1,5 @@
 -- Each digit is a piece.
-use Rattle.std.proofs.Common.{◌%◌, get_or, arith}
+use Rattle.std.proofs.Common.{◌%◌, arith}
 use Rattle.percent.proofs.AllowingLemmas.{sum-ends, sum-more, sum-starts}
 use Rattle.percent.proofs.allowing.first_weights.Goals as goal
 

@@ -1,6 +1,6 @@
 -- One bit more is set.
 use Rattle.std.proofs.Common.{◌*◌, ◌%◌, ◌^◌, arith}
-use Rattle.percent.proofs.AllowingLemmas.{bit-set, keeps-itself, keeps-set}
+use Rattle.percent.proofs.AllowingLemmas.{bit-set, keeps-set}
 use Rattle.percent.proofs.allowing.set_at.Goals as goal
 
 pub returns-clause-kept : goal.returns-clause-kept

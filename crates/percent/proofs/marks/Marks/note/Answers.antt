@@ -1,8 +1,8 @@
 -- A hand that is refused is bad.
-use Rattle.std.proofs.Common.{◌≡◌, ◌<◌, ◌∙◌, get_or, length, take, true, subst, sym, arith}
+use Rattle.std.proofs.Common.{◌<◌, ◌∙◌, get_or, subst, sym, arith}
 use Rattle.std.proofs.lemmas.List.{get_or-take, length-take}
 use Rattle.empty_cells.specs.Empties.{empty_cells}
-use Rattle.percent.specs.Building.{AreTested, IsRefused}
+use Rattle.percent.specs.Building.{IsRefused}
 use Rattle.percent.proofs.BuildingLemmas.{refused-bad, tested-bad}
 use Rattle.percent.proofs.marks.Marks.note.Goals as goal
 use Rattle.percent.proofs.marks.Marks.note.Goals.{then-has, else-has}

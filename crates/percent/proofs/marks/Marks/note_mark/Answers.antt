@@ -1,5 +1,5 @@
 -- A hand of the mark at this index.
-use Rattle.std.proofs.Common.{refl, sym, ◌∙◌, arith}
+use Rattle.std.proofs.Common.{refl, arith}
 use Rattle.std.proofs.lemmas.Option.{slice_get_read}
 use Rattle.percent.proofs.BuildingLemmas.{mark-here}
 use Rattle.percent.proofs.marks.Marks.note_mark.Goals as goal
