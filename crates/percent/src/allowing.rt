@@ -12,7 +12,7 @@ use hold_queue::Hold;
 /// For each sum of weights the hands that allow it, one bit each.
 pub type Sums = [u64; 512];
 
-/// Weights of kinds by which any two choices of so many pieces of each kind have different sums, unless these are great.
+/// Weights of kinds by which any two choices of so many pieces of each kind have different sums, if these are small.
 pub fn weights_of(counts: &Counts) -> [u16; 8] {
     let mut weights = [0; 8];
     let mut unit = 1u16;

@@ -1,5 +1,5 @@
-// The hands that may be good because a listed tiling serves them: its pieces can be put in place one after the other, in
-// an order that the hand permits.
+// The hands that may be good because a listed tiling serves them: its pieces can be put in place one after the other,
+// in an order that the hand permits.
 ghost use Rattle.std.specs.Prelude.{◌≡◌, ◌≤◌, ◌<◌, Some, length, true};
 ghost use Rattle.lane_board.specs.Lanes.{has_bit};
 ghost use Rattle.percent.specs.BuiltHands.{IsHardSrs};
