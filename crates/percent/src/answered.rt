@@ -6,12 +6,12 @@ ghost use Rattle.percent.specs.Children.{IsChild};
 ghost use Rattle.percent.specs.GoodHands.{is_good, is_good_after};
 ghost use Rattle.percent.specs.Marks.{AreIndexes};
 
-use crate::hand::{not_leading_to, rests_of};
 use crate::kept::Kept;
 use crate::listed::{marks_after, marks_of};
 use crate::marks::{Asked, Marks, fitting_after};
 use crate::order::wanted_first;
 use crate::position::{Child, Position};
+use hands::{not_leading_to, rests_of};
 use number_sets::{merged, without};
 use pc_outside::NoMemory;
 use reach::Steps;

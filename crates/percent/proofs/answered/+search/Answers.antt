@@ -14,7 +14,8 @@ use Rattle.percent.specs.declared.game.Game.{Game}
 use Rattle.percent.specs.Children.{IsChild}
 use Rattle.percent.specs.Marks.{AreIndexes, IsStanding}
 use Rattle.percent.specs.GoodHands.{is_good, is_good_after, is_good_at}
-use Rattle.percent.proofs.GoodSteps.{good-ends, answer-kept, answer-known, closed-missed, explore-open, explore-starts, explore-step, try-ends, try-step, try-starts, ok-map}
+use Rattle.std.proofs.lemmas.Result.{IfOk-weaker}
+use Rattle.percent.proofs.GoodSteps.{good-ends, answer-kept, answer-known, closed-missed, explore-open, explore-starts, explore-step, try-ends, try-step, try-starts}
 use Rattle.percent.proofs.answered.+search.Goals as goal
 
 -- what holds of a value that may be there holds of the one that is
@@ -24,7 +25,7 @@ some-holds o v is P holds = subst (λ o. IfSome o P) is holds
 pub answered-returns-then-left-eq0-clause-members : goal.answered-returns-then-left-eq0-clause-members
 answered-returns-then-left-eq0-clause-members g t c =
     let p = c.args.child.now.position in
-    ok-map c.answered_at_end.result _ _ (λ v h hand. h hand ∙ ap (λ b. has c.args.hands.now hand && b) (sym (good-ends c.args.kept.now.game (filled p.well) p.rows c.args.left hand c.if-left-eq0.true)))
+    IfOk-weaker c.answered_at_end.result _ _ (λ v h hand. h hand ∙ ap (λ b. has c.args.hands.now hand && b) (sym (good-ends c.args.kept.now.game (filled p.well) p.rows c.args.left hand c.if-left-eq0.true)))
     c.answered_at_end.ensures.members
 
 pub answered-returns-then-is_empty-clause-members : goal.answered-returns-then-is_empty-clause-members
@@ -106,7 +107,7 @@ explored-closed-requires-clause-missed g t c = λ hand.
 pub explored-returns-clause-members : goal.explored-returns-clause-members
 explored-returns-clause-members g t c =
     let p = c.args.marks.now.position in
-    ok-map c.closed.result _ _ (λ v h hand. h hand ∙ ap (λ (game : Game). has c.args.hands.now hand && is_good game (filled p.well) p.rows (c.args.left + 1) hand) c.loop-piece.invariant.same) c.closed.ensures.members
+    IfOk-weaker c.closed.result _ _ (λ v h hand. h hand ∙ ap (λ (game : Game). has c.args.hands.now hand && is_good game (filled p.well) p.rows (c.args.left + 1) hand) c.loop-piece.invariant.same) c.closed.ensures.members
 
 pub tried-returns-then-is_empty-clause-members : goal.tried-returns-then-is_empty-clause-members
 tried-returns-then-is_empty-clause-members g t c = λ rest.
@@ -169,7 +170,7 @@ pub tried-returns-clause-members : goal.tried-returns-clause-members
 tried-returns-clause-members g t c =
     let p = c.args.marks.now.position in
     let all = c.in_ok-asked.ensures.rests ∙ c.in_ok-all.ensures.items in
-    ok-map c.without.result _ _
+    IfOk-weaker c.without.result _ _
     (λ v h. try-ends c.args.kept.now.game c.loop-child.kept.game (filled p.well) p.rows c.args.piece c.args.left c.deref-child-items.result.now c.args.rests.now c.loop-child.asked.rests.items v.items
     c.args.steps.now c.loop-child.steps c.loop-child.child-index c.loop-child.invariant.0 c.loop-child-test.false
     (subst (λ l. (rest : ℕ) → has c.args.rests.now rest ≡ true → is_good_at c.args.kept.now.game l c.args.left rest ≡ is_good_after c.args.kept.now.game (filled p.well) p.rows c.args.piece c.args.left rest) (sym c.deref-child-items.ensures.value)
