@@ -14,7 +14,7 @@ use pc_outside::NoMemory;
 use std::alloc::Global;
 use tiled_pieces::served_hands;
 
-/// With fewer placements to come the test costs more than what it spares.
+/// With fewer placements to come the test costs more than what it spares, and so it does with soft drops.
 const FEWEST: u8 = 4;
 
 /// What is asked of hands: whether they may be good in a game with `left` placements to come. `drops` says that nothing
@@ -286,10 +286,11 @@ impl Marks {
             ≡ (has hands.now hand
             && is_good game.now (filled self.now.position.well) self.now.position.rows left hand)) }
     {
-        if left < FEWEST || self.is_empty() {
+        let question = Question::new(game, left);
+        if !question.drops || left < FEWEST || self.is_empty() {
             return Ok(Vec::from_slice(alloc, hands)?);
         }
-        let may = self.may_serve(alloc, &Question::new(game, left), hands)?;
+        let may = self.may_serve(alloc, &question, hands)?;
         let mut v = Vec::with_capacity(alloc, hands.len())?;
         for index in 0..hands.len() {
             if may[index] {
