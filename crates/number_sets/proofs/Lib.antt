@@ -6,3 +6,4 @@ mod WithoutSteps
 mod SearchLemmas
 mod SetSteps
 mod WholeLemmas
+mod LookupLemmas

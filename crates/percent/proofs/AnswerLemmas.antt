@@ -16,7 +16,7 @@ use Rattle.number_sets.specs.Rising.{IsRising, has}
 use Rattle.number_sets.proofs.CallerLemmas.{has-none, has-push, has-there, whole-list}
 use Rattle.problem.specs.declared.problem.Problem.{Problem}
 use Rattle.problem.specs.Problem.{IsFit, empties_of, needed_of}
-use Rattle.percent.specs.Hands.{hand_of}
+use Rattle.hands.specs.Hands.{hand_of}
 use Rattle.percent.specs.GoodHands.{AreAnswers, game_of, hand_at, HasGoodHands, HasHandsBefore, is_good, is_good_queue}
 use Rattle.percent.proofs.GoodLemmas.{good-decides, uneven-none}
 

@@ -42,7 +42,7 @@ use Rattle.tiled_pieces.specs.Served.{left_by}
 use Rattle.percent.specs.BuiltHands.{IsBuiltBy, IsHardSrs, takes_all}
 use Rattle.percent.specs.Fitting.{supply_at}
 use Rattle.percent.specs.GoodHands.{is_good, reached_places}
-use Rattle.percent.specs.Hands.{takes}
+use Rattle.hands.specs.Hands.{takes}
 use Rattle.percent.specs.OpenRows.{HasOpenRows}
 use Rattle.percent.specs.Spread.{IsSpread, is_row_of}
 use Rattle.percent.proofs.MarkLemmas.{laid, laid-sent, left-sent, lies, sent_part}

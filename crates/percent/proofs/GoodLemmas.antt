@@ -27,11 +27,11 @@ use Rattle.problem.proofs.CallerLemmas.{IsLow, filled-low, locked-low, long-need
 use Rattle.well.proofs.CallerLemmas.{free_inside}
 use Rattle.moves.proofs.CallerLemmas.{is_place-decides as place-decides, place-free}
 use Rattle.percent.specs.declared.game.Game.{Game}
-use Rattle.percent.specs.Hands.{number_of, hand_of, allows_hold, takes, without_first, without_second}
+use Rattle.hands.specs.Hands.{number_of, hand_of, allows_hold, takes, without_first, without_second}
 use Rattle.percent.specs.GoodHands.{reached_places, is_good, is_good_after, game_of, is_good_queue}
 use Rattle.percent.specs.Good.{Good}
-use Rattle.percent.proofs.TestLemmas.{or_cases}
-use Rattle.percent.proofs.HandLemmas.{takes-from, takes-to}
+use Rattle.std.proofs.lemmas.Bool.{or_cases}
+use Rattle.hands.proofs.CallerLemmas.{takes-from, takes-to}
 
 pub good-step : (game : Game) (F : Field) (rows left hand : ℕ)
     → is_good game F rows (suc left) hand ≡ list_any (λ piece. takes game.hold (piece_code piece) (is_good_after game F rows piece left) hand) all_pieces

@@ -15,9 +15,9 @@ use Rattle.number_sets.specs.Rising.{IsRising, has}
 use Rattle.number_sets.proofs.CallerLemmas.{has-none}
 use Rattle.percent.specs.declared.game.Game.{Game}
 use Rattle.percent.specs.declared.position.Child.{Child}
-use Rattle.percent.specs.Hands.{allows_hold, takes, with_first, with_second, without_first, without_second}
+use Rattle.hands.specs.Hands.{allows_hold, takes, with_first, with_second, without_first, without_second}
 use Rattle.percent.specs.GoodHands.{is_good, is_good_after, is_good_at}
-use Rattle.percent.proofs.RestSteps.{first_back, second_back, or_false}
+use Rattle.hands.proofs.CallerLemmas.{first_back, second_back, or_false}
 use Rattle.percent.proofs.GoodLemmas.{good-step}
 
 and_same : (a b c : Bool) → (a ≡ true → b ≡ c) → (a && b) ≡ (a && c)
@@ -68,17 +68,6 @@ explore-starts order game F rows left hands asked steps is up = search (rules, n
 
 ask_less : (w a t u : Bool) → ((w && not a) ≡ true → t ≡ u) → ((w && not a) && not t) ≡ (w && not (a || u))
 ask_less w a t u same = search rules
-
-never_and : (a : Bool) → (a && false) ≡ false
-never_and a = search rules
-
-untaken : (w a b c : Bool) → w ≡ (w && not ((a && false) || (b && (c && false))))
-untaken w a b c = rw (never_and a, never_and c, never_and b) (not_none w)
-
--- where nothing may be left nothing is taken
-pub takes-none : (hold : Hold) (code : ℕ) (hands rests : List ℕ) (hand : ℕ) → rests ≡ [] → has hands hand ≡ (has hands hand && not (takes hold code (has rests) hand))
-unfolding takes has
-takes-none hold code hands rests hand nil = search (rules, untaken)
 
 explore-more : (order : List Piece) (game now next_game : Game) (F : Field) (rows left : ℕ) (hands asked rests good next : List ℕ) (before middle after i : ℕ) (d : Piece)
     → Exploring order game now F rows left hands asked before middle i → i < length order
@@ -141,6 +130,16 @@ explore-open order game now F rows left hands asked before after i same state al
 pub closed-found : (hands asked found : List ℕ) (good : ℕ → Bool) → ((hand : ℕ) → has asked hand ≡ (has hands hand && not (good hand))) → ((hand : ℕ) → has found hand ≡ (has hands hand && not (has asked hand)))
     → (hand : ℕ) → has found hand ≡ (has hands hand && good hand)
 closed-found hands asked found good asked_is found_is hand = search (rules, taken_back)
+
+rest_back : (w a : Bool) → (w && not (w && a)) ≡ (w && not a)
+rest_back w a = search rules
+
+-- the others of all hands are missed, where some were left out that aren't good
+pub closed-missed : (hands likely asked found missed : List ℕ) (good : ℕ → Bool) → ((hand : ℕ) → (has likely hand && good hand) ≡ (has hands hand && good hand))
+    → ((hand : ℕ) → has asked hand ≡ (has likely hand && not (good hand))) → ((hand : ℕ) → has found hand ≡ (has likely hand && not (has asked hand)))
+    → ((hand : ℕ) → has missed hand ≡ (has hands hand && not (has found hand))) → (hand : ℕ) → has missed hand ≡ (has hands hand && not (good hand))
+closed-missed hands likely asked found missed good likely_is asked_is found_is missed_is hand =
+    missed_is hand ∙ ap (λ b. has hands hand && not b) (closed-found likely asked found good asked_is found_is hand ∙ likely_is hand) ∙ rest_back (has hands hand) (good hand)
 
 not_second : (w t : Bool) → (w && not t) ≡ true → t ≡ false
 not_second w t there = search rules
@@ -253,8 +252,3 @@ found-good found unknown good found_is hand there = second_true (has found hand)
 pub good-ends : (game : Game) (F : Field) (rows left hand : ℕ) → left ≡ 0 → is_good game F rows left hand ≡ (rows == 0)
 unfolding is_good
 good-ends game F rows left hand none = ap (λ n. is_good game F rows n hand) none
-
--- what holds of each value holds of the value of an answer
-pub ok-map : {T E : Type 0} (r : Result T E) (P Q : T → Type 0) → ((v : T) → P v → Q v) → IfOk r P → IfOk r Q
-ok-map (Ok v) P Q each p = each v p
-ok-map (Err e) P Q each p = p

@@ -172,7 +172,7 @@ after-listed F q height left rest rows counts fewer E list kept few small spread
     (λ tiling listed has. keeps tiling listed (subst (HasPiece tiling) (laid-sent rows q) has))))
 
 -- what holds of all marks holds of the one at an index
-marked_at : (P : Mark → Type 0) (known : List Mark) (index : ℕ) (counts : List ℕ) → All P known → (k : HasMarkAt known index counts) → P k.mark
+pub marked_at : (P : Mark → Type 0) (known : List Mark) (index : ℕ) (counts : List ℕ) → All P known → (k : HasMarkAt known index counts) → P k.mark
 marked_at P known index counts all k = search (rules, slice_get_within, get_or_from_slice_get)
 
 -- where the mark of a rest doesn't have it, the rest isn't good
@@ -217,7 +217,7 @@ mark-listed p child left rest index known rows cells taken old new spread true_m
 
 -- ---- in which marks a placement stands
 
-own_bit : (k : ℕ) → k < 64 → has_bit (1 * 2 ^ k % 2 ^ 64) k ≡ true
+pub own_bit : (k : ℕ) → k < 64 → has_bit (1 * 2 ^ k % 2 ^ 64) k ≡ true
 unfolding has_bit
 own_bit k low = has_bit-low (1 * 2 ^ k) 64 k low ∙ has_bit-shifted_high 1 k k (omega arith) ∙ ap (has_bit 1) {x = k - k} {y = 0} (omega arith) ∙ refl
 

@@ -35,7 +35,7 @@ use Rattle.percent.specs.declared.game.Game.{Game}
 use Rattle.percent.specs.declared.position.Child.{Child}
 use Rattle.percent.specs.Children.{IsChild}
 use Rattle.percent.specs.GoodHands.{reached_places, is_good, is_good_after, is_good_at}
-use Rattle.percent.proofs.TestLemmas.{or_cases}
+use Rattle.std.proofs.lemmas.Bool.{or_cases}
 
 -- a place of a piece below a row
 pub record IsLowPlace (game : Game) (F : Field) (rows : ℕ) (piece : Piece) (q : Placement) : Type 0 where

@@ -29,9 +29,9 @@ use Rattle.empty_cells.specs.declared.empties.Empties.{Empties}
 use Rattle.empty_cells.specs.Empties.{empty_cells}
 use Rattle.empty_cells.proofs.CallerLemmas.{cells_small}
 use Rattle.srs.proofs.CallerLemmas.{piece_code-small}
-use Rattle.percent.specs.Hands.{allows_hold, takes, without_first, without_second}
+use Rattle.hands.specs.Hands.{allows_hold, takes, without_first, without_second}
 use Rattle.percent.proofs.MarkLemmas.{fewer-listed}
-use Rattle.percent.proofs.TestLemmas.{or_cases}
+use Rattle.std.proofs.lemmas.Bool.{or_cases}
 
 -- ---- what can be taken from a hand
 

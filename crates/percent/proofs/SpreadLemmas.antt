@@ -21,7 +21,8 @@ use Rattle.well.proofs.CallerLemmas.{full_below_height, together_below}
 use Rattle.empty_cells.specs.Empties.{has_cell}
 use Rattle.empty_cells.specs.SentCells.{sent_cells, sent_up}
 use Rattle.empty_cells.proofs.CallerLemmas.{cell_of, sent_from, sent_has}
-use Rattle.percent.proofs.TestLemmas.{or_cases, not_false}
+use Rattle.std.proofs.lemmas.Bool.{or_cases}
+use Rattle.percent.proofs.TestLemmas.{not_false}
 use Rattle.percent.specs.Spread.{ComesFrom, IsSpread, KeepsRows, is_row_of}
 
 -- a row in which one of the first rows stands

@@ -19,10 +19,10 @@ use Rattle.prune.proofs.CallerLemmas.{cleared_is_tiled, more_pieces, one_placeme
 use Rattle.problem.proofs.CallerLemmas.{IsLow, locked-low}
 use Rattle.moves.proofs.CallerLemmas.{is_place-decides as place-decides, place-free}
 use Rattle.percent.specs.declared.game.Game.{Game}
-use Rattle.percent.specs.Hands.{allows_hold, takes, without_first, without_second}
+use Rattle.hands.specs.Hands.{allows_hold, takes, without_first, without_second}
 use Rattle.percent.specs.Fitting.{codes_in, supply_at}
 use Rattle.percent.specs.GoodHands.{is_good, reached_places}
-use Rattle.percent.proofs.TestLemmas.{or_cases}
+use Rattle.std.proofs.lemmas.Bool.{or_cases}
 
 -- no more pieces have a code than there are pieces
 pub codes-few : (count hand code : ℕ) → codes_in count hand code ≤ count

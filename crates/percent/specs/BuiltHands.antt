@@ -16,7 +16,7 @@ use Rattle.percent.specs.declared.game.Game.{Game}
 use Rattle.tiled_pieces.specs.Built.{AreBuilt}
 use Rattle.tiled_pieces.specs.Served.{left_by}
 use Rattle.percent.specs.Fitting.{supply_at}
-use Rattle.percent.specs.Hands.{takes}
+use Rattle.hands.specs.Hands.{takes}
 
 -- the kinds of these pieces can be taken from the hand one after the other
 unfoldable pub takes_all : Hold → ℕ → List Piece → Bool

@@ -18,7 +18,7 @@ use Rattle.problem.specs.declared.problem.Problem.{Problem}
 use Rattle.problem.specs.Problem.{needed_of}
 use Rattle.percent.specs.declared.game.Game.{Game}
 use Rattle.percent.specs.declared.position.Child.{Child}
-use Rattle.percent.specs.Hands.{hand_of, takes}
+use Rattle.hands.specs.Hands.{hand_of, takes}
 
 -- the placements of a piece that legal keys reach, in order
 unfoldable pub reached_places : Game → Field → Piece → List Placement

@@ -6,7 +6,6 @@ pub mod GoodHands
 pub mod OpenRows
 pub mod BuiltHands
 -- What serves proofs alone
-pub mod Hands
 pub mod Kept
 pub mod Fitting
 pub mod Children
@@ -14,3 +13,4 @@ pub mod Spread
 pub mod Marks
 pub mod Wanted
 pub mod Standing
+pub mod Building

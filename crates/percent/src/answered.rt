@@ -6,12 +6,12 @@ ghost use Rattle.percent.specs.Children.{IsChild};
 ghost use Rattle.percent.specs.GoodHands.{is_good, is_good_after};
 ghost use Rattle.percent.specs.Marks.{AreIndexes};
 
-use crate::hand::{not_leading_to, rests_of};
 use crate::kept::Kept;
 use crate::listed::{marks_after, marks_of};
 use crate::marks::{Asked, Marks, fitting_after};
 use crate::order::wanted_first;
 use crate::position::{Child, Position};
+use hands::{not_leading_to, rests_of};
 use number_sets::{merged, without};
 use pc_outside::NoMemory;
 use reach::Steps;
@@ -133,7 +133,7 @@ fn answered<L: Ledger>(
 }
 
 /// The hands that are good at the position of the marks with one placement to come and then `left` more, piece by piece.
-/// They are kept.
+/// Those that no listed tiling serves are not tried. All answers are kept.
 #[cycle(search)]
 fn explored<L: Ledger>(
     alloc: Global,
@@ -151,14 +151,17 @@ fn explored<L: Ledger>(
     ensures game { kept.new.game ≡ kept.old.game }
     ensures counted { steps.old ≤ steps.new }
 {
-    let mut open = Vec::from_slice(alloc, hands)?;
-    for piece in wanted_first(kept.game.hold, hands) {
+    let likely = marks.buildable(alloc, &kept.game, left + 1, hands)?;
+    let mut open = Vec::from_slice(alloc, likely.as_slice())?;
+    for piece in wanted_first(kept.game.hold, likely.as_slice()) {
         let hold = kept.game.hold;
         let rests = rests_of(alloc, hold, piece, open.as_slice())?;
         let good = tried(alloc, kept, marks, left, piece, rests.as_slice(), steps)?;
         open = not_leading_to(alloc, hold, piece, open, good.as_slice())?;
     }
-    closed(alloc, kept, &marks.position, left, hands, open.as_slice())
+    let found = without(alloc, likely.as_slice(), open.as_slice())?;
+    let missed = without(alloc, hands, found.as_slice())?;
+    closed(alloc, kept, &marks.position, left, hands, missed.as_slice())
 }
 
 /// The rests that are good after one of the places of a piece, at the position of the marks.

@@ -6,9 +6,8 @@ ghost use Rattle.number_sets.specs.Rising.{IsRising};
 ghost use Rattle.problem.specs.Problem.{IsFit};
 ghost use Rattle.percent.specs.GoodHands.{AreAnswers, HasGoodHands, HasHandsBefore, is_good_queue};
 
-use crate::lookup::Starts;
 use crate::start::{good_hands, hand};
-use number_sets::as_set;
+use number_sets::{Starts, as_set};
 use pc_outside::NoMemory;
 use problem::Problem;
 use reach::Steps;

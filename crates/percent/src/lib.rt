@@ -1,16 +1,16 @@
 // How many queues of a pattern have a perfect clear, found for all of them at once.
 #![tactic(auto)]
 
+mod allowing;
 mod answered;
 mod answers;
+mod building;
 mod children;
 mod fitting;
 mod game;
-mod hand;
 mod kept;
 pub mod laws;
 mod listed;
-mod lookup;
 mod marks;
 mod order;
 mod position;

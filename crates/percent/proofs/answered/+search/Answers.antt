@@ -14,7 +14,8 @@ use Rattle.percent.specs.declared.game.Game.{Game}
 use Rattle.percent.specs.Children.{IsChild}
 use Rattle.percent.specs.Marks.{AreIndexes, IsStanding}
 use Rattle.percent.specs.GoodHands.{is_good, is_good_after, is_good_at}
-use Rattle.percent.proofs.GoodSteps.{good-ends, answer-kept, answer-known, explore-open, explore-step, try-ends, try-step, try-starts, ok-map}
+use Rattle.std.proofs.lemmas.Result.{IfOk-weaker}
+use Rattle.percent.proofs.GoodSteps.{good-ends, answer-kept, answer-known, closed-missed, explore-open, explore-starts, explore-step, try-ends, try-step, try-starts}
 use Rattle.percent.proofs.answered.+search.Goals as goal
 
 -- what holds of a value that may be there holds of the one that is
@@ -24,7 +25,7 @@ some-holds o v is P holds = subst (λ o. IfSome o P) is holds
 pub answered-returns-then-left-eq0-clause-members : goal.answered-returns-then-left-eq0-clause-members
 answered-returns-then-left-eq0-clause-members g t c =
     let p = c.args.child.now.position in
-    ok-map c.answered_at_end.result _ _ (λ v h hand. h hand ∙ ap (λ b. has c.args.hands.now hand && b) (sym (good-ends c.args.kept.now.game (filled p.well) p.rows c.args.left hand c.if-left-eq0.true)))
+    IfOk-weaker c.answered_at_end.result _ _ (λ v h hand. h hand ∙ ap (λ b. has c.args.hands.now hand && b) (sym (good-ends c.args.kept.now.game (filled p.well) p.rows c.args.left hand c.if-left-eq0.true)))
     c.answered_at_end.ensures.members
 
 pub answered-returns-then-is_empty-clause-members : goal.answered-returns-then-is_empty-clause-members
@@ -65,31 +66,48 @@ answered-returns-then-is_empty-3-clause-members g t c = λ hand.
 seven : (order : List Piece) → IsPermutation all_pieces order → length order ≡ 7
 seven order same = length_permutation all_pieces order same
 
+pub explored-loop-piece-init : goal.explored-loop-piece-init
+explored-loop-piece-init g t c =
+    let p = c.args.marks.now.position in
+    explore-starts c.wanted_first-piece-items.result c.args.kept.now.game (filled p.well) p.rows c.args.left c.in_ok-likely.likely.items c.in_ok-open.open.items c.args.steps.now
+    (c.in_ok-open.ensures.items ∙ c.as_slice.ensures.value) c.in_ok-likely.ensures.rises
+
 pub explored-loop-piece-preserved : goal.explored-loop-piece-preserved
 explored-loop-piece-preserved g t c =
     let p = c.args.marks.now.position in
-    explore-step c.wanted_first-piece-items.result c.args.kept.now.game c.loop-piece.kept.game c.tried.new.kept.game (filled p.well) p.rows c.args.left c.args.hands.now
-    c.loop-piece.open.items c.as_slice.result.now c.loop-piece.open.items
-    c.in_ok-rests.rests.items c.as_slice-in-loop-piece.result.now c.in_ok-good.good.items c.as_slice-in-loop-piece-2.result.now c.in_ok-open-2.open.items
+    explore-step c.wanted_first-piece-items.result c.args.kept.now.game c.loop-piece.kept.game c.tried.new.kept.game (filled p.well) p.rows c.args.left c.in_ok-likely.likely.items
+    c.loop-piece.open.items c.as_slice-in-loop-piece.result.now c.loop-piece.open.items
+    c.in_ok-rests.rests.items c.as_slice-in-loop-piece-2.result.now c.in_ok-good.good.items c.as_slice-in-loop-piece-3.result.now c.in_ok-open-2.open.items
     c.args.steps.now c.loop-piece.steps c.tried.new.steps c.loop-piece.piece-index _
     c.loop-piece.invariant (omega (arith, seven c.wanted_first-piece-items.result c.wanted_first-piece-items.ensures, c.loop-piece-test.true))
-    c.as_slice.ensures.value c.in_ok-rests.ensures.members
-    c.as_slice-in-loop-piece.ensures.value c.in_ok-good.ensures.members
+    c.as_slice-in-loop-piece.ensures.value c.in_ok-rests.ensures.members
+    c.as_slice-in-loop-piece-2.ensures.value c.in_ok-good.ensures.members
     c.in_ok-good.ensures.game c.in_ok-good.ensures.counted
-    c.in_ok-open-2.ensures.rises refl c.as_slice-in-loop-piece-2.ensures.value c.in_ok-open-2.ensures.members
+    c.in_ok-open-2.ensures.rises refl c.as_slice-in-loop-piece-3.ensures.value c.in_ok-open-2.ensures.members
 
 pub explored-closed-requires-clause-missed : goal.explored-closed-requires-clause-missed
 explored-closed-requires-clause-missed g t c = λ hand.
     let p = c.args.marks.now.position in
     let order = c.wanted_first-piece-items.result in
-    ap (λ l. has l hand) c.as_slice-2.ensures.value
-    ∙ explore-open order c.args.kept.now.game c.loop-piece.kept.game (filled p.well) p.rows c.args.left c.args.hands.now c.loop-piece.open.items c.args.steps.now c.loop-piece.steps c.loop-piece.piece-index
-    c.wanted_first-piece-items.ensures c.loop-piece.invariant (omega (arith, seven order c.wanted_first-piece-items.ensures, c.loop-piece-test.false)) hand
+    let hands = c.args.hands.now in
+    let likely = c.in_ok-likely.likely.items in
+    let asked = c.loop-piece.open.items in
+    let good : ℕ → Bool = is_good c.loop-piece.kept.game (filled p.well) p.rows (c.args.left + 1) in
+    let likely_is : (hand : ℕ) → (has likely hand && good hand) ≡ (has hands hand && good hand) =
+    subst (λ (game : Game). (hand : ℕ) → (has likely hand && is_good game (filled p.well) p.rows (c.args.left + 1) hand) ≡ (has hands hand && is_good game (filled p.well) p.rows (c.args.left + 1) hand))
+    (sym c.loop-piece.invariant.same) c.in_ok-likely.ensures.members in
+    let asked_is : (hand : ℕ) → has asked hand ≡ (has likely hand && not (good hand)) =
+    explore-open order c.args.kept.now.game c.loop-piece.kept.game (filled p.well) p.rows c.args.left likely asked c.args.steps.now c.loop-piece.steps c.loop-piece.piece-index
+    c.wanted_first-piece-items.ensures c.loop-piece.invariant (omega (arith, seven order c.wanted_first-piece-items.ensures, c.loop-piece-test.false)) in
+    ap (λ l. has l hand) c.as_slice-6.ensures.value
+    ∙ closed-missed hands likely asked c.in_ok-found.found.items c.in_ok-missed.missed.items good likely_is asked_is
+    (λ hand. c.in_ok-found.ensures.members hand ∙ (λ i. has (c.as_slice-3.ensures.value i) hand && not (has (c.as_slice-4.ensures.value i) hand)))
+    (λ hand. c.in_ok-missed.ensures.members hand ∙ ap (λ l. has hands hand && not (has l hand)) c.as_slice-5.ensures.value) hand
 
 pub explored-returns-clause-members : goal.explored-returns-clause-members
 explored-returns-clause-members g t c =
     let p = c.args.marks.now.position in
-    ok-map c.closed.result _ _ (λ v h hand. h hand ∙ ap (λ (game : Game). has c.args.hands.now hand && is_good game (filled p.well) p.rows (c.args.left + 1) hand) c.loop-piece.invariant.same) c.closed.ensures.members
+    IfOk-weaker c.closed.result _ _ (λ v h hand. h hand ∙ ap (λ (game : Game). has c.args.hands.now hand && is_good game (filled p.well) p.rows (c.args.left + 1) hand) c.loop-piece.invariant.same) c.closed.ensures.members
 
 pub tried-returns-then-is_empty-clause-members : goal.tried-returns-then-is_empty-clause-members
 tried-returns-then-is_empty-clause-members g t c = λ rest.
@@ -152,7 +170,7 @@ pub tried-returns-clause-members : goal.tried-returns-clause-members
 tried-returns-clause-members g t c =
     let p = c.args.marks.now.position in
     let all = c.in_ok-asked.ensures.rests ∙ c.in_ok-all.ensures.items in
-    ok-map c.without.result _ _
+    IfOk-weaker c.without.result _ _
     (λ v h. try-ends c.args.kept.now.game c.loop-child.kept.game (filled p.well) p.rows c.args.piece c.args.left c.deref-child-items.result.now c.args.rests.now c.loop-child.asked.rests.items v.items
     c.args.steps.now c.loop-child.steps c.loop-child.child-index c.loop-child.invariant.0 c.loop-child-test.false
     (subst (λ l. (rest : ℕ) → has c.args.rests.now rest ≡ true → is_good_at c.args.kept.now.game l c.args.left rest ≡ is_good_after c.args.kept.now.game (filled p.well) p.rows c.args.piece c.args.left rest) (sym c.deref-child-items.ensures.value)

@@ -15,7 +15,7 @@ decreases-tried g l = 3 * l.left + 1
 
 abbrev pub invariant-explored-loop-piece : goal.invariant-explored-loop-piece
 invariant-explored-loop-piece g l =
-    Exploring l.piece-items l.fn.kept.game l.kept.game (filled l.marks.position.well) l.marks.position.rows l.left l.hands l.open.items l.fn.steps l.steps l.piece-index
+    Exploring l.piece-items l.fn.kept.game l.kept.game (filled l.marks.position.well) l.marks.position.rows l.left l.likely.items l.open.items l.fn.steps l.steps l.piece-index
 
 abbrev pub invariant-tried-loop-child : goal.invariant-tried-loop-child
 invariant-tried-loop-child g l =

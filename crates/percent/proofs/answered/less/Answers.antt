@@ -3,7 +3,8 @@ use Rattle.std.proofs.Common.{◌≡◌, ◌∙◌, ◌==◌, ◌&&◌, not, tru
 use Rattle.std.proofs.lemmas.Bool.Decides.{nat_tests}
 use Rattle.std.proofs.lemmas.List.{nil_from_length}
 use Rattle.number_sets.specs.Rising.{IsRising, has}
-use Rattle.percent.proofs.GoodSteps.{less-none, ok-map}
+use Rattle.std.proofs.lemmas.Result.{IfOk-weaker}
+use Rattle.percent.proofs.GoodSteps.{less-none}
 use Rattle.percent.proofs.answered.less.Goals as goal
 
 pub returns-then-is_empty-clause-members : goal.returns-then-is_empty-clause-members
@@ -13,10 +14,10 @@ returns-then-is_empty-clause-members c =
     less-none c.args.asked.rests.items c.args.found.now (nil_from_length c.args.found.now short)
 
 pub returns-clause-rises : goal.returns-clause-rises
-returns-clause-rises c = ok-map c.asked_of.result _ _ (λ v h. subst IsRising (sym h) c.in_ok-rests.ensures.rises) c.asked_of.ensures.rests
+returns-clause-rises c = IfOk-weaker c.asked_of.result _ _ (λ v h. subst IsRising (sym h) c.in_ok-rests.ensures.rises) c.asked_of.ensures.rests
 
 pub returns-clause-members : goal.returns-clause-members
 returns-clause-members c =
-    ok-map c.asked_of.result _ _
+    IfOk-weaker c.asked_of.result _ _
     (λ v h rest. ap (λ l. has l rest) h ∙ c.in_ok-rests.ensures.members rest ∙ ap (λ l. has l rest && not (has c.args.found.now rest)) c.as_slice.ensures.value)
     c.asked_of.ensures.rests

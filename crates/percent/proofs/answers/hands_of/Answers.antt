@@ -2,7 +2,7 @@
 use Rattle.std.proofs.Common.{subst, arith}
 use Rattle.percent.proofs.AnswerLemmas.{hands-more, hands-same}
 use Rattle.percent.specs.GoodHands.{HasHandsBefore}
-use Rattle.percent.proofs.GoodSteps.{ok-map}
+use Rattle.std.proofs.lemmas.Result.{IfOk-weaker}
 use Rattle.percent.proofs.answers.hands_of.Goals as goal
 
 pub loop-number-preserved : goal.loop-number-preserved
@@ -10,4 +10,4 @@ loop-number-preserved c = rw c.in_ok-push.ensures.items (hands-more c.args.probl
 
 pub returns-clause-each : goal.returns-clause-each
 returns-clause-each c =
-    ok-map c.as_set.result _ _ (λ v h. hands-same c.args.problem.now c.loop-number.hands.items v.items _ h (subst (HasHandsBefore c.args.problem.now c.loop-number.hands.items) (omega (arith, c.count-count.ensures.number)) c.loop-number.invariant)) c.as_set.ensures.members
+    IfOk-weaker c.as_set.result _ _ (λ v h. hands-same c.args.problem.now c.loop-number.hands.items v.items _ h (subst (HasHandsBefore c.args.problem.now c.loop-number.hands.items) (omega (arith, c.count-count.ensures.number)) c.loop-number.invariant)) c.as_set.ensures.members

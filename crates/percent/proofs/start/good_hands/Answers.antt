@@ -4,7 +4,8 @@ use Rattle.well.specs.Well.{filled}
 use Rattle.number_sets.specs.Rising.{has}
 use Rattle.percent.specs.GoodHands.{is_good}
 use Rattle.percent.proofs.AnswerLemmas.{uneven-answer}
-use Rattle.percent.proofs.GoodSteps.{answer-kept, ok-map}
+use Rattle.std.proofs.lemmas.Result.{IfOk-weaker}
+use Rattle.percent.proofs.GoodSteps.{answer-kept}
 use Rattle.percent.proofs.start.good_hands.Goals as goal
 
 pub returns-then-empties_below-ne0-clause-members : goal.returns-then-empties_below-ne0-clause-members
@@ -16,7 +17,7 @@ pub returns-clause-members : goal.returns-clause-members
 returns-clause-members g c =
     let p = c.first_position-position.result in
     let kept = c.in_ok-kept.kept in
-    ok-map c.answered_first.result _ _
+    IfOk-weaker c.answered_first.result _ _
     (λ v h hand.
     h hand
     ∙ answer-kept c.in_ok-fit.fit.items c.as_slice-2.result.now c.args.hands.items (is_good kept.game (filled p.well) p.rows c.needed-left.result) c.as_slice-2.ensures.value

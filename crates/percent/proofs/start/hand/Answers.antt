@@ -1,6 +1,6 @@
 -- The queue that is read is the one with the number.
 use Rattle.std.proofs.Common.{ap, ◌∙◌}
-use Rattle.percent.specs.Hands.{hand_of}
+use Rattle.hands.specs.Hands.{hand_of}
 use Rattle.percent.proofs.AnswerLemmas.{hand-read}
 use Rattle.percent.proofs.start.hand.Goals as goal
 

@@ -4,7 +4,7 @@ use Rattle.well.specs.Well.{filled}
 use Rattle.problem.specs.Problem.{needed_of}
 use Rattle.percent.specs.GoodHands.{game_of, is_good}
 use Rattle.number_sets.specs.Rising.{has}
-use Rattle.percent.specs.Hands.{hand_of}
+use Rattle.hands.specs.Hands.{hand_of}
 use Rattle.percent.proofs.AnswerLemmas.{one-answer}
 use Rattle.percent.proofs.start.solvable.Goals as goal
 

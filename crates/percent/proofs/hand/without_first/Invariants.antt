@@ -1,6 +1,0 @@
-use Rattle.percent.specs.Hands.{with_first}
-use Rattle.percent.proofs.RestSteps.{Resting}
-use Rattle.percent.proofs.hand.without_first.Given as goal
-
-abbrev pub invariant-loop-hand : goal.invariant-loop-hand
-invariant-loop-hand l = Resting (with_first l.code) l.hands l.v.items l.hand-index
