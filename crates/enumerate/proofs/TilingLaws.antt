@@ -1,7 +1,6 @@
 -- What plays to the end leaves a tiling, and the supply of a queue set is that of its line.
-use Rattle.std.proofs.Common.{◌≡◌, ◌↔◌, ℕ, suc, ◌+◌, ◌-◌, ◌≤◌, Bool, true, cond, List, [], ◌∷◌, ◌++◌, length, refl, sym, ap, subst, ◌∙◌, arith}
+use Rattle.std.proofs.Common.{◌≡◌, ◌↔◌, ℕ, ◌+◌, ◌-◌, ◌≤◌, Bool, true, cond, List, [], ◌∷◌, ◌++◌, length, refl, sym, ap, ◌∙◌, arith, rules}
 use Rattle.std.specs.Prelude.{count_by, min, ◌==◌}
-use Rattle.std.specs.Bool.{one_answer}
 use Rattle.std.proofs.lemmas.Bool.{cases_Bool, cond-false, cond-true}
 use Rattle.std.proofs.Math.Path.{fun_ext}
 use Rattle.std.proofs.lemmas.List.{length-map}
@@ -54,33 +53,13 @@ pieces-counted s piece = sym (counted s)
 pub played-tiled : (n : Position) (s : List Placement) → IsLow n.field n.rows → Plays n.table n.mode n.field n.rows s → QueuesPermit n.line (n.line.played ++ pieces_of s) → can_be_tiled (length s) n ≡ true
 unfolding can_be_tiled
 played-tiled n s low plays permitted =
-    (tiling_decided n.field n.rows (supply_of n.line (length s))).1
-    (more_pieces n.field n.rows (kinds_placed s) (supply_of n.line (length s)) enough
-    (cleared_is_tiled n.field n.rows s low.within (record { none = low.none }) (plays-clears n.table n.mode n.field n.rows s plays)))
-  where
-    enough : (piece : Piece) → kinds_placed s piece ≤ supply_of n.line (length s) piece
-    enough piece =
-        let most = subst (λ k. count_by (λ other. piece_code other == piece_code piece) (pieces_of s) ≤ supply_of n.line k piece) (length-map s (λ q. q.piece)) (supply-enough n.line (pieces_of s) piece permitted) in
-        omega (arith, pieces-counted s piece)
+    search (rules, (tiling_decided n.field n.rows (supply_of n.line (length s))), (more_pieces n.field n.rows (kinds_placed s) (supply_of n.line (length s))), (cleared_is_tiled n.field n.rows s low.within), (plays-clears n.table n.mode n.field n.rows s plays), (length-map s (λ q. q.piece)), (supply-enough n.line (pieces_of s)), (pieces-counted s))
 
 -- what a placement leaves has a tiling, before its full rows go, exactly where it has one after
 pub left-tiled : (F E : Field) (rows : ℕ) (q : Placement) (supply : Supply) (answer : Bool) → rows ≤ 8 → LiesBelow F rows → is_free F q ≡ true → is_below rows q ≡ true →
     E ≡ without_placement (difference (rows_below rows) F) q → ((answer ≡ true) ↔ Tiling (all_but E) 8 supply) → answer ≡ has_tiling (locked F q) (rows - rows_removed F q) supply
 left-tiled F E rows q supply answer few below free placed is answers =
-    one_answer {P = Tiling (locked F q) (rows - rows_removed F q) supply} answer (has_tiling (locked F q) (rows - rows_removed F q) supply) (
-      λ yes. locking.0 (standing.0 (subst (λ E. Tiling (all_but E) 8 supply) left (answers.0 yes))),
-      λ tiling. answers.1 (subst (λ E. Tiling (all_but E) 8 supply) (sym left) (standing.1 (locking.1 tiling))),
-    )
-    (tiling_decided (locked F q) (rows - rows_removed F q) supply)
-  where
-    left : E ≡ difference (rows_below rows) (together F q)
-    left = is ∙ left_by_placement F rows q
-
-    standing : Tiling (all_but (difference (rows_below rows) (together F q))) 8 supply ↔ Tiling (together F q) rows supply
-    standing = tiling_below (together F q) rows 8 supply few
-
-    locking : Tiling (together F q) rows supply ↔ Tiling (locked F q) (rows - rows_removed F q) supply
-    locking = full_rows_may_stand F q rows supply (omega arith) below free placed
+    search (rules, answers.0, answers.1, (tiling_decided (locked F q) (rows - rows_removed F q) supply), (left_by_placement F rows q), (tiling_below (together F q) rows 8 supply few), (full_rows_may_stand F q rows supply))
 
 -- ---- what may be played after one more piece
 
@@ -105,11 +84,7 @@ supply-moves line piece left before after is moves = fun_ext (λ other. moves ot
 pub live-after : (table : Table) (mode : DropMode) (setup : Setup) (q : Placement) (supply : Supply) → ((other : Piece) → supply other ≡ min setup.left (less_one (SupplyWords.supply_of setup.supply) q.piece other)) →
     (left : ℕ) → left + 1 ≡ setup.left → is_live left (after_of (position_of table mode setup) q) ≡ has_tiling (locked (filled setup.well) q) (setup.rows - rows_removed (filled setup.well) q) supply
 unfolding is_live can_be_tiled after_of position_of
-live-after table mode setup q supply moves left less =
-    let line = queues_in_play setup.line.queues in
-    let next : suc left ≡ setup.left = omega arith in
-    ap (has_tiling (locked (filled setup.well) q) (setup.rows - rows_removed (filled setup.well) q))
-    (ap (supply_of (record line { played = line.played ++ q.piece ∷ [] })) next ∙ sym (supply-moves line q.piece setup.left (SupplyWords.supply_of setup.supply) supply setup.supplied moves))
+live-after table mode setup q supply moves left less = search (rules, (supply-moves (queues_in_play setup.line.queues) q.piece setup.left))
 
 -- what is left lies below the rows left
 pub locked-below : (setup : Setup) (q : Placement) (well : Well) (rows : ℕ) → is_below setup.rows q ≡ true → is_free (filled setup.well) q ≡ true →

@@ -1,5 +1,5 @@
 -- What comes before the placement is passed by, and what comes first at the placement itself is its frame or nothing.
-use Rattle.std.proofs.Common.{◌≡◌, refl, sym, subst, ◌∙◌, true, arith}
+use Rattle.std.proofs.Common.{◌≡◌, refl, sym, subst, ◌∙◌, true, arith, rules}
 use Rattle.reach.specs.FloodRules.{flood_table}
 use Rattle.srs.proofs.CallerLemmas.{some_same}
 use Rattle.well.specs.Well.{filled}
@@ -9,7 +9,6 @@ use Rattle.hold_queue.specs.QueueSet.{queues_in_play}
 use Rattle.moves.proofs.CallerLemmas.{is_place-decides}
 use Rattle.enumerate.specs.Frames.{places_left}
 use Rattle.enumerate.specs.Setups.{position_of}
-use Rattle.enumerate.specs.Position.{may_play}
 use Rattle.enumerate.specs.declared.setup.Setup.{Setup}
 use Rattle.enumerate.proofs.PlaceLaws.{place-lockable}
 use Rattle.enumerate.proofs.SkipLemmas.{dead-result, dead-untiled, held-below, held-place, left-above, passes-kind, skips-dead, skips-entered, skips-same, skips-unplaced, unheld-place}
@@ -19,10 +18,8 @@ use Rattle.enumerate.proofs.frame.Frame.skip.Goals as goal
 
 pub returns-then-not-may_play-clause-skips : goal.returns-then-not-may_play-clause-skips
 unfolding places_left
-returns-then-not-may_play-clause-skips g c = λ prefix given.
-    skips-same _ _ c.args.steps.now
-    (passes-kind (flood_table c.args.rules.now) c.args.drop_mode c.args.self.now _ refl c.args.target.now c.requires.fresh.live c.code-self.ensures
-    (may_play-answer (queues_in_play c.args.self.now.setup.line.queues) c.args.target.now.piece c.may_play.result c.may_play.ensures.permitted ∙ c.if-not-may_play.true) refl prefix given)
+returns-then-not-may_play-clause-skips g c =
+    search (rules, skips-same, (passes-kind (flood_table c.args.rules.now) c.args.drop_mode c.args.self.now), (may_play-answer (queues_in_play c.args.self.now.setup.line.queues) c.args.target.now.piece c.may_play.result c.may_play.ensures.permitted))
 
 pub flood-requires-clause-permitted : goal.flood-requires-clause-permitted
 flood-requires-clause-permitted g c = may_play-answer (queues_in_play c.args.self.now.setup.line.queues) c.args.target.now.piece c.may_play.result c.may_play.ensures.permitted ∙ c.if-not-may_play.false
@@ -46,8 +43,7 @@ unfolding position_of
 enter-requires-clause-lockable g c =
     let placed = held-place (position_of (flood_table c.args.rules.now) c.args.drop_mode c.args.self.now.setup) c.args.target.now _ c.flood.ensures.places c.reaches-reached.result c.reaches-reached.ensures c.if-not-reached.false in
     place-lockable (flood_table c.args.rules.now) (filled c.flood.new.self.setup.well) c.args.drop_mode c.args.target.now.piece c.args.target.now refl
-    ((is_place-decides (flood_table c.args.rules.now) (filled c.flood.new.self.setup.well) c.args.drop_mode c.args.target.now).0
-    (subst (λ (s : Setup). is_place (flood_table c.args.rules.now) (filled s.well) c.args.drop_mode c.args.target.now ≡ true) (sym c.flood.ensures.same) placed))
+    (search (rules, (is_place-decides (flood_table c.args.rules.now) (filled c.flood.new.self.setup.well) c.args.drop_mode c.args.target.now)))
 
 pub enter-requires-clause-below : goal.enter-requires-clause-below
 unfolding position_of
@@ -57,8 +53,7 @@ enter-requires-clause-below g c =
 
 pub enter-requires-clause-permitted : goal.enter-requires-clause-permitted
 enter-requires-clause-permitted g c =
-    subst (λ (s : Setup). may_play (queues_in_play s.line.queues) c.args.target.now.piece ≡ true) (sym c.flood.ensures.same)
-    (may_play-answer (queues_in_play c.args.self.now.setup.line.queues) c.args.target.now.piece c.may_play.result c.may_play.ensures.permitted ∙ c.if-not-may_play.false)
+    search (rules, (may_play-answer (queues_in_play c.args.self.now.setup.line.queues) c.args.target.now.piece c.may_play.result c.may_play.ensures.permitted))
 
 pub returns-in-Entered-clause-skips : goal.returns-in-Entered-clause-skips
 unfolding position_of
@@ -97,8 +92,7 @@ unfolding position_of
 is_worth-requires-clause-lockable g c =
     let placed = held-place (position_of (flood_table c.args.rules.now) c.args.drop_mode c.args.self.now.setup) c.args.target.now _ c.flood.ensures.places c.reaches-reached.result c.reaches-reached.ensures c.if-not-reached.false in
     place-lockable (flood_table c.args.rules.now) (filled c.flood.new.self.setup.well) c.args.drop_mode c.args.target.now.piece c.args.target.now refl
-    ((is_place-decides (flood_table c.args.rules.now) (filled c.flood.new.self.setup.well) c.args.drop_mode c.args.target.now).0
-    (subst (λ (s : Setup). is_place (flood_table c.args.rules.now) (filled s.well) c.args.drop_mode c.args.target.now ≡ true) (sym c.flood.ensures.same) placed))
+    (search (rules, (is_place-decides (flood_table c.args.rules.now) (filled c.flood.new.self.setup.well) c.args.drop_mode c.args.target.now)))
 
 pub is_worth-requires-clause-below : goal.is_worth-requires-clause-below
 unfolding position_of
