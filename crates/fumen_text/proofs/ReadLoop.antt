@@ -1,5 +1,5 @@
 -- Reading pages one after the other, as a loop does.
-use Rattle.std.proofs.Common.{◌≡◌, ℕ, zero, suc, ◌+◌, ◌-◌, ◌<◌, ◌≤◌, true, false, List, [], ◌∷◌, ◌++◌, length, Result, Ok, Err, sym, ap, subst, ◌∙◌, append_assoc, arith, rules}
+use Rattle.std.proofs.Common.{◌≡◌, ℕ, zero, suc, ◌+◌, ◌-◌, ◌<◌, ◌≤◌, true, false, List, [], ◌∷◌, ◌++◌, length, Result, Ok, Err, append_assoc, arith, rules}
 use Rattle.std.proofs.lemmas.List.{append-nil, length-append}
 use Rattle.pc_outside.specs.declared.answers.Refused.{Refused}
 use Rattle.pc_outside.specs.declared.answers.Refused.TheVariants as refused
@@ -47,14 +47,7 @@ pub record IsReadSoFar (d : Dialect) (ds : List ℕ) (most : ℕ) (pages : List 
       ≡ pages_at d ds most 1 0 empty_page 0
 
 pub read_starts : (d : Dialect) (ds : List ℕ) (most : ℕ) → IsReadSoFar d ds most [] (reader 0 empty_page 0)
-read_starts d ds most =
-    let all : most - 0 ≡ most = omega arith in
-    record {
-      within = omega arith;
-      sound = empty_sound d;
-      few = omega arith;
-      completes = from_nothing (pages_at d ds (most - 0) 1 0 empty_page 0) ∙ ap (λ (n : ℕ). pages_at d ds n 1 0 empty_page 0) all;
-    }
+read_starts d ds most = search (rules, (empty_sound d), (from_nothing (pages_at d ds (most - 0) 1 0 empty_page 0)))
 
 regroup : (pages : List Page) (page : Page) (read : Result (List Page) FumenFault) → with_front pages (read >>= λ others. Ok (page ∷ others)) ≡ with_front (pages ++ page ∷ []) read
 unfolding with_front
@@ -64,53 +57,20 @@ pub read_more : (d : Dialect) (ds : List ℕ) (most count : ℕ) (pages : List P
     → next_page_at d ds (count + 1) at.place at.cells at.promised ≡ Ok step → step.1.place ≤ length ds → AreCells d step.1.cells → IsReadSoFar d ds most pages at
     → IsReadSoFar d ds most (pages ++ step.0 ∷ []) step.1
 read_more d ds most count pages at step due counted fewer read_counted within sound s =
-    let read = subst (λ (n : ℕ). next_page_at d ds (n + 1) at.place at.cells at.promised ≡ Ok step) counted read_counted in
-    let more = length-append pages (step.0 ∷ []) in
-    let left = most - length pages - 1 in
-    let room : most - length pages ≡ suc left = omega arith in
-    let room_is : most - length (pages ++ step.0 ∷ []) ≡ left = omega (arith, more) in
-    let number_is : length (pages ++ step.0 ∷ []) + 1 ≡ length pages + 1 + 1 = omega (arith, more) in
-    let number = length pages + 1 in
-    let others = pages_at d ds left (number + 1) step.1.place step.1.cells step.1.promised in
-    let turn : pages_at d ds (most - length pages) number at.place at.cells at.promised ≡ (others >>= λ x. Ok (step.0 ∷ x)) =
-    ap (λ (n : ℕ). pages_at d ds n number at.place at.cells at.promised) room
-    ∙ (turn_due d ds left number at.place at.cells at.promised due ∙ ok_bind (next_page_at d ds number at.place at.cells at.promised) (λ x. others_at d ds left number x) step read) in
-    let behind : pages_at d ds (most - length (pages ++ step.0 ∷ [])) (length (pages ++ step.0 ∷ []) + 1) step.1.place step.1.cells step.1.promised ≡ others =
-    ap (λ (n : ℕ). pages_at d ds n (length (pages ++ step.0 ∷ []) + 1) step.1.place step.1.cells step.1.promised) room_is
-    ∙ ap (λ (n : ℕ). pages_at d ds left n step.1.place step.1.cells step.1.promised) number_is in
-    record {
-      within = within;
-      sound = sound;
-      few = omega (arith, more);
-      completes =
-          ap (λ (r : Result (List Page) FumenFault). with_front (pages ++ step.0 ∷ []) r) behind
-          ∙ (sym (regroup pages step.0 others) ∙ (ap (λ (r : Result (List Page) FumenFault). with_front pages r) (sym turn) ∙ s.completes));
-    }
+    search (rules, (length-append pages (step.0 ∷ [])), (turn_due d ds (most - length pages - 1) (length pages + 1) at.place at.cells at.promised due), (ok_bind (next_page_at d ds (length pages + 1) at.place at.cells at.promised) (λ x. others_at d ds (most - length pages - 1) (length pages + 1) x) step), (regroup pages step.0))
 
 pub read_stops : (e : Refused FumenFault) (d : Dialect) (ds : List ℕ) (most count : ℕ) (pages : List Page) (at : PageReader) → is_due ds at.place at.promised ≡ true → count ≡ length pages → count < most
     → IsRefusal (λ (f : FumenFault). f) e (next_page_at d ds (count + 1) at.place at.cells at.promised) → IsReadSoFar d ds most pages at
     → IsRefusal (λ (f : FumenFault). f) e (pages_at d ds most 1 0 empty_page 0)
 unfolding with_front
 read_stops (refused.Fault f) d ds most count pages at due counted fewer read_counted s =
-    let read = subst (λ (n : ℕ). next_page_at d ds (n + 1) at.place at.cells at.promised ≡ Err f) counted read_counted in
-    let left = most - length pages - 1 in
-    let room : most - length pages ≡ suc left = omega arith in
-    let number = length pages + 1 in
-    let failed : pages_at d ds (most - length pages) number at.place at.cells at.promised ≡ Err f =
-    ap (λ (n : ℕ). pages_at d ds n number at.place at.cells at.promised) room
-    ∙ (turn_due d ds left number at.place at.cells at.promised due ∙ err_bind (next_page_at d ds number at.place at.cells at.promised) (λ x. others_at d ds left number x) f read) in
-    sym s.completes ∙ ap (λ (r : Result (List Page) FumenFault). with_front pages r) failed
+    search (rules, (turn_due d ds (most - length pages - 1) (length pages + 1) at.place at.cells at.promised due), (err_bind (next_page_at d ds (length pages + 1) at.place at.cells at.promised) (λ x. others_at d ds (most - length pages - 1) (length pages + 1) x) f))
 read_stops refused.NoMemory d ds most count pages at due counted fewer read s = tt
 
 pub read_full : (d : Dialect) (ds : List ℕ) (most count : ℕ) (pages : List Page) (at : PageReader) → is_due ds at.place at.promised ≡ true → count ≡ length pages → count ≡ most → IsReadSoFar d ds most pages at
     → pages_at d ds most 1 0 empty_page 0 ≡ Err TooManyPages
 unfolding with_front
-read_full d ds most count pages at due counted full s =
-    let none : most - length pages ≡ 0 = omega arith in
-    let number = length pages + 1 in
-    let failed : pages_at d ds (most - length pages) number at.place at.cells at.promised ≡ Err TooManyPages =
-    ap (λ (n : ℕ). pages_at d ds n number at.place at.cells at.promised) none ∙ turn_full d ds number at.place at.cells at.promised due in
-    sym s.completes ∙ ap (λ (r : Result (List Page) FumenFault). with_front pages r) failed
+read_full d ds most count pages at due counted full s = search (rules, (turn_full d ds (length pages + 1) at.place at.cells at.promised due))
 
 pub read_ends : (d : Dialect) (ds : List ℕ) (most : ℕ) (pages : List Page) (at : PageReader) → is_due ds at.place at.promised ≡ false → IsReadSoFar d ds most pages at → pages_at d ds most 1 0 empty_page 0 ≡ Ok pages
 unfolding with_front
