@@ -1,8 +1,7 @@
 -- Reading pages one after the other, as a loop does.
-use Rattle.std.proofs.Common.{◌≡◌, ℕ, zero, suc, ◌+◌, ◌-◌, ◌<◌, ◌≤◌, true, false, List, [], ◌∷◌, ◌++◌, length, Result, Ok, Err, append_assoc, arith, rules}
+use Rattle.std.proofs.Common.{◌≡◌, ℕ, zero, suc, ◌+◌, ◌-◌, ◌<◌, ◌≤◌, true, false, List, [], ◌∷◌, ◌++◌, length, Result, Ok, Err, sym, ap, subst, ◌∙◌, append_assoc, arith, rules}
 use Rattle.std.proofs.lemmas.List.{append-nil, length-append}
 use Rattle.pc_outside.specs.declared.answers.Refused.{Refused}
-use Rattle.pc_outside.specs.declared.answers.Refused.TheVariants as refused
 use Rattle.fumen_digits.specs.declared.dialect.Dialect.{Dialect}
 use Rattle.fumen_digits.specs.declared.fault.FumenFault.{FumenFault}
 use Rattle.fumen_digits.specs.declared.fault.FumenFault.TheVariants.{TooManyPages}
@@ -18,6 +17,7 @@ use Rattle.fumen_text.specs.Texts.{empty_page}
 use Rattle.fumen_text.specs.Reading.{page_cells_at, is_due, pages_at, reader, promise_at, next_page_at}
 use Rattle.fumen_text.proofs.PagesReadAsSpelled.{from_nothing, others_at, turn_due, turn_ended, turn_full, with_front}
 use Rattle.fumen_text.proofs.TextReadAsSpelled.{empty_sound}
+use Rattle.pc_outside.specs.declared.answers.Refused.TheVariants as refused
 
 -- ---- the cells of a page
 
@@ -57,7 +57,28 @@ pub read_more : (d : Dialect) (ds : List ℕ) (most count : ℕ) (pages : List P
     → next_page_at d ds (count + 1) at.place at.cells at.promised ≡ Ok step → step.1.place ≤ length ds → AreCells d step.1.cells → IsReadSoFar d ds most pages at
     → IsReadSoFar d ds most (pages ++ step.0 ∷ []) step.1
 read_more d ds most count pages at step due counted fewer read_counted within sound s =
-    search (rules, (length-append pages (step.0 ∷ [])), (turn_due d ds (most - length pages - 1) (length pages + 1) at.place at.cells at.promised due), (ok_bind (next_page_at d ds (length pages + 1) at.place at.cells at.promised) (λ x. others_at d ds (most - length pages - 1) (length pages + 1) x) step), (regroup pages step.0))
+    let read = subst (λ (n : ℕ). next_page_at d ds (n + 1) at.place at.cells at.promised ≡ Ok step) counted read_counted in
+    let more = length-append pages (step.0 ∷ []) in
+    let left = most - length pages - 1 in
+    let room : most - length pages ≡ suc left = omega arith in
+    let room_is : most - length (pages ++ step.0 ∷ []) ≡ left = omega (arith, more) in
+    let number_is : length (pages ++ step.0 ∷ []) + 1 ≡ length pages + 1 + 1 = omega (arith, more) in
+    let number = length pages + 1 in
+    let others = pages_at d ds left (number + 1) step.1.place step.1.cells step.1.promised in
+    let turn : pages_at d ds (most - length pages) number at.place at.cells at.promised ≡ (others >>= λ x. Ok (step.0 ∷ x)) =
+    ap (λ (n : ℕ). pages_at d ds n number at.place at.cells at.promised) room
+    ∙ (turn_due d ds left number at.place at.cells at.promised due ∙ ok_bind (next_page_at d ds number at.place at.cells at.promised) (λ x. others_at d ds left number x) step read) in
+    let behind : pages_at d ds (most - length (pages ++ step.0 ∷ [])) (length (pages ++ step.0 ∷ []) + 1) step.1.place step.1.cells step.1.promised ≡ others =
+    ap (λ (n : ℕ). pages_at d ds n (length (pages ++ step.0 ∷ []) + 1) step.1.place step.1.cells step.1.promised) room_is
+    ∙ ap (λ (n : ℕ). pages_at d ds left n step.1.place step.1.cells step.1.promised) number_is in
+    record {
+      within = within;
+      sound = sound;
+      few = omega (arith, more);
+      completes =
+          ap (λ (r : Result (List Page) FumenFault). with_front (pages ++ step.0 ∷ []) r) behind
+          ∙ (sym (regroup pages step.0 others) ∙ (ap (λ (r : Result (List Page) FumenFault). with_front pages r) (sym turn) ∙ s.completes));
+    }
 
 pub read_stops : (e : Refused FumenFault) (d : Dialect) (ds : List ℕ) (most count : ℕ) (pages : List Page) (at : PageReader) → is_due ds at.place at.promised ≡ true → count ≡ length pages → count < most
     → IsRefusal (λ (f : FumenFault). f) e (next_page_at d ds (count + 1) at.place at.cells at.promised) → IsReadSoFar d ds most pages at

@@ -13,7 +13,7 @@ use Rattle.fumen_pages.specs.declared.page.Page.{Page}
 use Rattle.fumen_pages.specs.Cells.{AreCells, IsColour}
 use Rattle.fumen_text.specs.Spells.{SpellsFumen}
 use Rattle.fumen_text.specs.Texts.{ReadsAs, empty_page, most_pages}
-use Rattle.fumen_text.specs.Faults.{IsDigitsFault, IsTextFault}
+use Rattle.fumen_text.specs.Faults.{IsDigitsFault, IsTextFault, PagesStand}
 use Rattle.fumen_text.specs.Reading.{framed_pages, pages_at, pages_of_digits, text_pages}
 use Rattle.fumen_text.proofs.WholePages.{all_stands, stands_all, spells_from_whole, whole_from_spells, is_due-ended}
 use Rattle.fumen_text.proofs.PagesReadAsSpelled.{MeetsFault, pages_from_read, pages_fault_from_read, read_from_fault, read_whole, turn_ended, with_front}
@@ -35,7 +35,12 @@ spells_from_read d ds room before pages sound e = search (rules, (pages_from_rea
 read_from_spells : (d : Dialect) (ds : List ℕ) (room : ℕ) (before : List ℕ) (pages : List Page) → AreCells d before → SpellsFumen d before 0 pages ds → length pages ≤ room → pages_at d ds room 1 0 before 0 ≡ Ok pages
 unfolding with_front
 read_from_spells d ds room before pages sound spells few =
-    search (rules, (stands_all ds), (read_whole d ds pages (room - length pages) room 1 (length pages + 1) 0 before 0 (length ds) (whole_from_spells d before 0 pages ds spells).0 0), (turn_ended d ds (room - length pages) (length pages + 1) (length ds) (whole_from_spells d before 0 pages ds spells).0 0), (is_due-ended ds (length ds) 0), (append-nil pages))
+    let whole = whole_from_spells d before 0 pages ds spells in
+    let stand : PagesStand d ds 0 before 0 pages (length ds) whole.0 0 = record { text = ds; stands = stands_all ds; spells = whole.1 } in
+    let left = room - length pages in
+    read_whole d ds pages left room 1 (length pages + 1) 0 before 0 (length ds) whole.0 0 (omega arith) refl sound stand
+    ∙ (ap (λ (r : Result (List Page) FumenFault). with_front pages r) (turn_ended d ds left (length pages + 1) (length ds) whole.0 0 (is_due-ended ds (length ds) 0 (omega arith) refl))
+    ∙ ap (λ (x : List Page). Ok x) (append-nil pages))
 
 -- ---- texts
 

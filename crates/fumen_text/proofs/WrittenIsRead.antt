@@ -1,12 +1,11 @@
 -- Pages without a fault can be written, and what is written reads as them.
-use Rattle.std.proofs.Common.{◌≡◌, ℕ, ◌+◌, ◌*◌, ◌<◌, ◌≤◌, Bool, true, cond, not, eqb, leb, ltb, List, [], ◌∷◌, length, take, replicate, drop, Option, Some, None, Err, get_or, refl, arith, rules}
+use Rattle.std.proofs.Common.{◌≡◌, ℕ, ◌+◌, ◌*◌, ◌<◌, ◌≤◌, Bool, true, cond, not, eqb, leb, ltb, List, [], ◌∷◌, length, take, replicate, drop, Option, Some, None, Err, get_or, refl, ap, ◌∙◌, arith, rules}
 use Rattle.std.specs.Prelude.{All}
 use Rattle.std.specs.List.{AllByRecursion, list_all}
 use Rattle.std.specs.Option.{ForSome, option_or, option_map_or}
 use Rattle.std.proofs.lemmas.Bool.{and_parts, eqb-true, cases_lt, lt-ltb, le-ltb, le-leb, leb-true}
 use Rattle.std.proofs.lemmas.List.{length-append, length-take, drop_more, drop_all, get_or_default}
 use Rattle.pc_outside.specs.declared.answers.Refused.{Refused}
-use Rattle.pc_outside.specs.declared.answers.Refused.TheVariants as refused
 use Rattle.std.proofs.lemmas.List.Elements.{recursion_from_All}
 use Rattle.std.proofs.lemmas.List.Sums.{AllPass-from_list_all}
 use Rattle.fumen_digits.specs.declared.dialect.Dialect.{Dialect}
@@ -16,11 +15,12 @@ use Rattle.fumen_pages.specs.declared.page.Page.{Page}
 use Rattle.fumen_pages.specs.Cells.{IsColour, missing_count}
 use Rattle.fumen_pages.specs.Action.{is_inside_in}
 use Rattle.fumen_pages.specs.declared.encode_fault.EncodeFault.{EncodeFault}
-use Rattle.fumen_pages.specs.declared.encode_fault.EncodeFault.TheVariants as fault
 use Rattle.fumen_text.specs.Texts.{ReadsAs, empty_page, most_pages}
 use Rattle.fumen_text.specs.Written.{IsRefusedBy, HasTypes, IsWritable, is_short, list_encode_fault, page_encode_fault, pages_digits, pages_encode_fault, written}
 use Rattle.fumen_text.proofs.TextReadAsSpelled.{empty_sound}
 use Rattle.fumen_text.proofs.WrittenIsSpelled.{pages_are_digits, pages_spell}
+use Rattle.pc_outside.specs.declared.answers.Refused.TheVariants as refused
+use Rattle.fumen_pages.specs.declared.encode_fault.EncodeFault.TheVariants as fault
 
 -- no fault: the test holds, and there is none behind it
 passes : (b : Bool) (f : EncodeFault) (rest : Option EncodeFault) → cond (not b) (Some f) rest ≡ None → (b ≡ true) × (rest ≡ None)
@@ -58,7 +58,24 @@ missing_size d cells size = search (rules, length-take)
 pub fit_page : (d : Dialect) (number : ℕ) (page : Page) → HasTypes page → page_encode_fault d number page ≡ None → IsWritable d page
 unfolding page_encode_fault
 fit_page d number page types e =
-    search (rules, (passes (list_all (λ cell. leb cell 8) page.cells)), (passes (list_all (λ cell. eqb cell 0) (take (missing_count d) page.cells))), (passes (is_short page.comment)), (passes (option_map_or (is_inside_in d) page.operation true)), (all_colours page.cells), (all_empty (take (missing_count d) page.cells)), (missing_size d page.cells types.size), (in_some (is_inside_in d) page.operation))
+    let missing = take (missing_count d) page.cells in
+    let inside = option_map_or (is_inside_in d) page.operation true in
+    let colours = passes (list_all (λ cell. leb cell 8) page.cells) (fault.BadCell number) _ e in
+    let rows = passes (list_all (λ cell. eqb cell 0) missing) (fault.RowTooHigh number) _ colours.1 in
+    let placed = passes inside (fault.PieceOutside number) _ rows.1 in
+    let short = passes (is_short page.comment) (fault.CommentTooLong number) None placed.1 in
+    record {
+      sound = record {
+        cells = record {
+          size = types.size;
+          colours = all_colours page.cells colours.0;
+          missing = all_empty missing rows.0 ∙ ap (λ (n : ℕ). replicate n 0) (missing_size d page.cells types.size);
+        };
+        inside = in_some (is_inside_in d) page.operation placed.0;
+      };
+      units = types.units;
+      short = short.0;
+    }
 
 pub no_faults : (d : Dialect) (number : ℕ) (pages : List Page) → AllByRecursion HasTypes pages → pages_encode_fault d number pages ≡ None → AllByRecursion (IsWritable d) pages
 unfolding pages_encode_fault
