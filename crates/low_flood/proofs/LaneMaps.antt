@@ -16,7 +16,7 @@ use Rattle.srs.proofs.CallerLemmas.{each_state, int_le-true}
 use Rattle.well.specs.Free.{is_open, is_free_at, is_free}
 use Rattle.well.proofs.CallerLemmas.{open_at, free_pivot}
 use Rattle.moves.specs.Rest.{lowered}
-use Rattle.moves.specs.Height.{is_column}
+use Rattle.moves.specs.Height.{is_column, fits_column}
 use Rattle.moves.specs.RestingStates.{IsResting}
 use Rattle.moves.specs.Lanes.{lowest, lane}
 use Rattle.moves.proofs.CallerLemmas.{column, natural, free_fits}
@@ -83,8 +83,13 @@ module _ (N : ℕ) where
 
   pub fitting_inside : (piece : Piece) (rotation : Rotation) → fitting_all N (lane_cells piece rotation) (rows_below N) ≡ inside_lanes piece rotation N
   unfolding inside_lanes
-  fitting_inside piece rotation =
-      search (rules, same_fields, same_from_both, (fits_within (lane_cells piece rotation) (rows_below N)), from_rows, (fits_all piece rotation (shape piece rotation) (rows_below N)), and_parts)
+  fitting_inside piece rotation = same_fields _ _ (λ x y. same_from_both _ _
+      (λ held.
+      let lies = (fits_within (lane_cells piece rotation) (rows_below N) (record { inside = from_rows })).inside x y held in
+      sym (fits_all piece rotation (shape piece rotation) (rows_below N) x y lies.0 lies.1) ∙ held)
+      (λ held.
+      let lies = from_rows x y (and_parts (rows_below N x y) (fits_column piece rotation (pos x)) held).0 in
+      fits_all piece rotation (shape piece rotation) (rows_below N) x y lies.0 lies.1 ∙ held))
 
 -- the pivot of a place
 abbrev pub place_pivot : Piece → Rotation → ℕ → ℕ → Cell

@@ -17,7 +17,7 @@ use Rattle.moves.specs.Place.{IsPlace}
 use Rattle.moves.specs.Sky.{IsClearFrom, IsUnderSky}
 use Rattle.moves.specs.RestingStates.{IsResting, IsRestWhere}
 use Rattle.moves.specs.Lanes.{lowest, lane}
-use Rattle.moves.proofs.CallerLemmas.{hard_places, near, rest_lane, sky_free}
+use Rattle.moves.proofs.CallerLemmas.{hard_places, lowest_near, near, rest_lane, sky_free}
 use Rattle.low_flood.specs.LaneMap.{free_lanes, resting_lanes}
 use Rattle.low_flood.specs.LanePlaces.{IsCut, lane_pivots, has_own_cells, hard_board}
 use Rattle.place_sets.specs.States.{HasExactly, IsUnder, States, has_state}
@@ -66,12 +66,26 @@ cut_before piece rotation M S few rises = same_fields _ _ (λ x y. same_from_bot
 
 pub lane_pivots-from : (S : Field) (q : Placement) → lane_pivots q.piece q.rotation S q.x q.y ≡ true → HasPlace S q
 unfolding lane_pivots intersection moved
-lane_pivots-from S q filled = search (rules, (moved_from (intersection S (rows_below 24)) 24 (pos 0, (neg_ℤ (lowest (shape q.piece q.rotation)))) q.x q.y filled), and_parts)
+lane_pivots-from S q filled =
+    let up = neg_ℤ (lowest (shape q.piece q.rotation)) in
+    let way = moved_from (intersection S (rows_below 24)) 24 (pos 0, up) q.x q.y filled in
+    let p : pos way.from_x +ℤ pos 0 ≡ pos q.x = ap (λ (c : Cell). c.0) way.there in
+    let e : pos way.from_y +ℤ neg_ℤ (lowest (shape q.piece q.rotation)) ≡ pos q.y = ap (λ (c : Cell). c.1) way.there in
+    let column : way.from_x ≡ q.x = omega (arith, ints) in
+    let held = (and_parts (S way.from_x way.from_y) (rows_below 24 way.from_x way.from_y) way.filled).0 in
+    record { y = way.from_y; at = omega (arith, ints); held = subst (λ (x : ℕ). S x way.from_y ≡ true) column held }
 
 pub lane_pivots-to : (S : Field) (N : ℕ) (q : Placement) → N ≤ 16 → LiesWithin S N → HasPlace S q → lane_pivots q.piece q.rotation S q.x q.y ≡ true
 unfolding lane_pivots intersection moved
 lane_pivots-to S N q few lies here =
-    search (rules, (lies.inside q.x here.y here.held), (moved_to (intersection S (rows_below 24)) 24 (pos 0, (neg_ℤ (lowest (shape q.piece q.rotation)))) q.x here.y q.x q.y), (and_from (S q.x here.y)), (in_rows 24 q.x here.y (lies.inside q.x here.y here.held).0))
+    let up = neg_ℤ (lowest (shape q.piece q.rotation)) in
+    let place = lies.inside q.x here.y here.held in
+    let at = here.at in
+    let small = lowest_near q.piece q.rotation in
+    let p : pos q.x +ℤ pos 0 ≡ pos q.x = omega (arith, ints) in
+    let e : pos here.y +ℤ neg_ℤ (lowest (shape q.piece q.rotation)) ≡ pos q.y = omega (arith, ints) in
+    let top : q.y < 24 = omega (arith, ints, place.1) in
+    moved_to (intersection S (rows_below 24)) 24 (pos 0, up) q.x here.y q.x q.y (and_from (S q.x here.y) _ here.held (in_rows 24 q.x here.y place.0 (omega (arith, place.1)))) (λ i. (p i, e i)) place.0 top
 
 pub pivots_within : (piece : Piece) (rotation : Rotation) (S : Field) → LiesWithin (lane_pivots piece rotation S) 24
 unfolding lane_pivots moved_within

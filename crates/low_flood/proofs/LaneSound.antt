@@ -21,7 +21,6 @@ use Rattle.moves.proofs.CallerLemmas.{step_of-free, soft_allows, leads-append, n
 use Rattle.moves.specs.Sky.{IsClearFrom}
 use Rattle.moves.specs.RestingStates.{IsKeyed}
 use Rattle.moves.specs.Lanes.{lowest, lane}
-use Rattle.place_sets.specs.declared.spreading.Shifts.TheVariants as Shift
 use Rattle.low_flood.specs.LaneFlood.{place_column}
 use Rattle.low_flood.specs.LaneTurns.{arrivals, lane_move}
 use Rattle.low_flood.proofs.LaneTests.{turned_within}
@@ -31,6 +30,7 @@ use Rattle.low_flood.proofs.ClassLemmas.{class_lane, sky_same}
 use Rattle.place_sets.proofs.CallerLemmas.{LiesWithin, IsWithin, moved_from, widened-from}
 use Rattle.low_flood.proofs.LaneTurns.{class_place, class_pivot, is_low_move, arrived, Arrived}
 use Rattle.low_flood.proofs.SkyBoards.{sky_board-exact}
+use Rattle.place_sets.specs.declared.spreading.Shifts.TheVariants as Shift
 
 -- the state is at a place
 pub record IsAt (t : Placement) (x y : ℕ) : Type 0 where
@@ -88,7 +88,16 @@ module _ (F : Field) (N : ℕ) (piece : Piece) (r : Rotation) (free : Field) (is
 
   -- and a free state is at a free place
   pub free_at_place : (t : Placement) (x y : ℕ) → t.piece ≡ piece → t.rotation ≡ r → IsAt t x y → y < N → is_free F t ≡ true → free x y ≡ true
-  free_at_place t x y kind turn at below t_free = search (rules, (class_place F piece r (pos x) (pos y)))
+  free_at_place t x y kind turn at below t_free =
+      let moves : (canonical_move t.piece t.rotation).0 ≡ (canonical_move piece r).0 = λ i. (canonical_move (kind i) (turn i)).0 in
+      let floors : lowest (shape t.piece t.rotation) ≡ lowest (shape piece r) = λ i. lowest (shape (kind i) (turn i)) in
+      let col = at.column in
+      let row = at.at in
+      let to_x : pos x -ℤ (canonical_move piece r).0 ≡ pos t.x = omega (arith, ints) in
+      let to_y : pos y -ℤ lowest (shape piece r) ≡ pos t.y = omega (arith, ints) in
+      let k = sym kind in
+      let m = sym turn in
+      is.exact x y below ∙ class_place F piece r (pos x) (pos y) ∙ (λ i. is_free_at F (k i) (m i) (to_x i, to_y i)) ∙ t_free
 
   -- a single move between free places
   shift_there : (s t : Placement) (move : Cell) → s.piece ≡ t.piece → s.rotation ≡ t.rotation → moved (pivot_of s) move ≡ pivot_of t → is_free F t ≡ true → shifted F s move ≡ Some t

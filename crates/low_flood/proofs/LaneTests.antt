@@ -92,7 +92,14 @@ module _ (N : ℕ) (piece : Piece) (rotation : Rotation) (free : Field) (lies : 
   there_open : (x y : ℕ) → y < N → opening N free inside move x y ≡ true → Opens x y
   unfolding opening union difference moved inside_lanes
   there_open x y row held = elim (or_cases (moved_within free N (neg_ℤ move.0) (neg_ℤ move.1) x y) _ held) [
-    | inl on ↦ search (rules, (moved_from free N (neg_ℤ move.0, neg_ℤ move.1) x y on), (opens_free (moved_from free N (neg_ℤ move.0, neg_ℤ move.1) x y on).from_x (moved_from free N (neg_ℤ move.0, neg_ℤ move.1) x y on).from_y))
+    | inl on ↦
+        let way = moved_from free N (neg_ℤ move.0, neg_ℤ move.1) x y on in
+        let p : pos way.from_x +ℤ neg_ℤ move.0 ≡ pos x = ap (λ (c : Cell). c.0) way.there in
+        let q : pos way.from_y +ℤ neg_ℤ move.1 ≡ pos y = ap (λ (c : Cell). c.1) way.there in
+        let place = lies.inside way.from_x way.from_y way.filled in
+        let to_x : pos x +ℤ move.0 ≡ pos way.from_x = omega (arith, ints) in
+        let to_y : pos y +ℤ move.1 ≡ pos way.from_y = omega (arith, ints) in
+        record { a = way.from_x; b = way.from_y; is = λ i. (to_x i, to_y i); opens = opens_free way.from_x way.from_y place.1 ∙ way.filled }
     | inr over ↦
         let parts = and_parts (moved_within inside N (neg_ℤ move.0) (pos 0) x y) _ over in
         let way = moved_from inside N (neg_ℤ move.0, pos 0) x y parts.0 in
