@@ -87,7 +87,15 @@ module _ (places : LowPlaces) (at bit : ℕ) (small : at < 8) (within : bit < 64
       ]
 
   pub low_least : IsNextAbove placement_cmp (λ q. IsTrue (holds places q)) None (Some s)
-  low_least = search (rules, first_held, number_less, (cell-parts places.words), (low_holds-parts places), comes_later)
+  low_least = record {
+    member = first_held;
+    above = refl;
+    least = λ q held above less.
+        let parts = low_holds-parts places q held in
+        let cell = cell-parts places.words (rotation_place q.rotation) q.x q.y parts.1 in
+        let fewer = number_less q s record { column = omega (arith, cell.0); row = omega (arith, cell.1) } record { column = omega (arith, is.column); row = omega (arith, is.row) } (parts.0 ∙ sym is.kind) less in
+        omega (arith, fewer, comes_later q held);
+  }
 
   -- it is taken out
   module _ (new : LowPlaces) (kind : piece_of new ≡ piece_of places) (whole : length places.words ≡ 8) (word : ℕ) (changed : new.words ≡ set places.words at word)

@@ -1,5 +1,5 @@
 -- The order of placements is that of their numbers, and a scan begins where the numbers do.
-use Rattle.std.proofs.Common.{◌≡◌, ◌↔◌, ℕ, ◌+◌, ◌<◌, ◌≤◌, true, ◌==◌, ◌&&◌, Option, Some, None, sym, ap, subst, ◌∙◌, ◌⊎◌, arith, rules}
+use Rattle.std.proofs.Common.{◌≡◌, ◌↔◌, ℕ, ◌+◌, ◌<◌, ◌≤◌, true, ◌==◌, ◌&&◌, Option, Some, None, refl, sym, ap, subst, ◌∙◌, ◌⊎◌, arith, rules}
 use Rattle.std.specs.Prelude.{IsTrue, IfSome}
 use Rattle.std.specs.Ordering.{ordering_then, nat_cmp}
 use Rattle.std.specs.declared.cmp.Ordering.{Ordering}
@@ -50,14 +50,25 @@ module _ (places : Places) where
   -- the least of all
   pub next_of_all : (result : Option Placement) → IsStateFrom (states_in places.numbers) places.piece 0 result → IsNextAbove placement_cmp (λ q. IsTrue (holds places q)) None result
   next_of_all None is = record { none = λ q held above. is.none q (omega arith) (holds-parts q held).1 }
-  next_of_all (Some s) is = search (rules, (holds-from s is.kind is.held), number_less, held_byte, holds-parts, (held_byte s is.held), is.first)
+  next_of_all (Some s) is = record {
+    member = holds-from s is.kind is.held;
+    above = refl;
+    least = λ q held above less.
+        let parts = holds-parts q held in
+        let fewer = number_less q s (held_byte q parts.1) (held_byte s is.held) (parts.0 ∙ sym is.kind) less in
+        omega (arith, fewer, is.first q (omega arith) parts.1);
+  }
 
   after : (bound q : Placement) → IsByte bound → bound.piece ≡ places.piece → q.piece ≡ places.piece → has_state (states_in places.numbers) q ≡ true → IsTrue (is_before placement_cmp bound q) → state_number bound + 1 ≤ state_number q
   after bound q byte kind kind_q held above = omega (arith, number_less bound q byte (held_byte q held) (kind ∙ sym kind_q) ((is_before-decides placement_cmp bound q).0 above))
 
   -- the least above a bound
   pub next_above : (bound : Placement) (result : Option Placement) → IsByte bound → bound.piece ≡ places.piece → IsStateFrom (states_in places.numbers) places.piece (state_number bound + 1) result → IsNextAbove placement_cmp (λ q. IsTrue (holds places q)) (Some bound) result
-  next_above bound None byte kind is = search (rules, is.none, (after bound), holds-parts)
+  next_above bound None byte kind is = record {
+    none = λ q held above.
+        let parts = holds-parts q held in
+        is.none q (after bound q byte kind parts.0 parts.1 above) parts.1;
+  }
   next_above bound (Some s) byte kind is = record {
     member = holds-from s is.kind is.held;
     above = (is_before-decides placement_cmp bound s).1 (less_number bound s byte (held_byte s is.held) (kind ∙ sym is.kind) (omega (arith, is.after)));

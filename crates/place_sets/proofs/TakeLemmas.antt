@@ -1,5 +1,5 @@
 -- What is held after the least placement is taken, and what lies below a row.
-use Rattle.std.proofs.Common.{◌≡◌, ◌≢◌, ◌↔◌, ℕ, ◌-◌, ◌<◌, Bool, true, cond, nat_lt, ◌&&◌, not, ◌==◌, ℤ, pos, Some, None, List, [], ◌∷◌, get_or, refl, rules}
+use Rattle.std.proofs.Common.{◌≡◌, ◌≢◌, ◌↔◌, ℕ, ◌-◌, ◌<◌, Bool, true, false, cond, nat_lt, ◌&&◌, not, ◌==◌, ℤ, pos, Option, Some, None, List, [], ◌∷◌, get_or, ◌⊎◌, refl, sym, ap, ◌∙◌, inl, inr, arith, rules}
 use Rattle.std.specs.Prelude.{IsTrue, int_lt, int_le, ◌<ℤ◌}
 use Rattle.std.specs.Int.Signed.{le_z_yes}
 use Rattle.std.specs.List.{list_all}
@@ -36,7 +36,22 @@ module _ (old new : Places) (kind : new.piece ≡ old.piece) where
       IsTrue (holds new q) ↔ (IsTrue (holds old q) × (Some s ≢ Some q))
   unfolding has_state
   taken_one n s small at kind_s taken q =
-      search (rules, (held_where q (not (n == number_of_state (rotation_place q.rotation) q.y q.x))), both_ways, not-true, (eq-eqb n), (number_is n s small), (cases_Bool (n == number_of_state (rotation_place q.rotation) q.y q.x)), (holds-parts old q), (same_number n s q), (number-within old.numbers q.rotation q.x q.y), (eqb-true n), not_from_false)
+      let few = rotation_place-small q.rotation in
+      let iff = held_where q (not (n == number_of_state (rotation_place q.rotation) q.y q.x)) (λ column row. taken (number_of_state (rotation_place q.rotation) q.y q.x) (omega arith)) in (
+        λ held. let parts = iff.0 held in (parts.0, λ e. both_ways _ (not-true _ parts.1) (eq-eqb n _ (sym (ap (λ (o : Option Placement). n_of o) (sym e) ∙ number_is n s small at)))),
+        λ found. iff.1 (found.0, other found.0 found.1 (cases_Bool (n == number_of_state (rotation_place q.rotation) q.y q.x))),
+      )
+    where
+      n_of : Option Placement → ℕ
+      n_of None = 0
+      n_of (Some t) = number_of_state (rotation_place t.rotation) t.y t.x
+
+      other : IsTrue (holds old q) → (Some s ≢ Some q) → ((n == number_of_state (rotation_place q.rotation) q.y q.x) ≡ true) ⊎ ((n == number_of_state (rotation_place q.rotation) q.y q.x) ≡ false) → not (n == number_of_state (rotation_place q.rotation) q.y q.x) ≡ true
+      other held apart (inl same) =
+          let parts = holds-parts old q held in
+          let within = number-within old.numbers q.rotation q.x q.y parts.1 in
+          absurd (apart (ap (λ (t : Placement). Some t) (same_number n s q at (kind_s ∙ sym parts.0) within.0 within.1 (sym (eqb-true n _ same)))))
+      other held apart (inr none) = not_from_false _ none
 
   -- nothing is taken out
   pub taken_none : ((m : ℕ) → m < 1536 → has_number new.numbers m ≡ (has_number old.numbers m && true)) → (q : Placement) → IsTrue (holds new q) ↔ (IsTrue (holds old q) × (None ≢ Some q))
