@@ -61,7 +61,9 @@ module _ (N : ℕ) (ground : Ground) (lies : (r : Rotation) → LiesWithin (grou
       })
     where
       arrived : (x y : ℕ) → Arrives ground.free N ground.piece to (lies to) (S from) (kicks_of ground.table ground.piece from to) x y → IsReached ground start (state_of ground.piece to x y)
-      arrived x y way = search (rules, (one_more ground start), (field_of_reached ground start S from all), (is.allowed ground.mode), (is.step ground.table ground.free ground.piece))
+      arrived x y way = one_more ground start (state_of ground.piece from way.from_x way.from_y) key (state_of ground.piece to x y)
+          ((field_of_reached ground start S from all).reached way.from_x way.from_y way.filled) (is.allowed ground.mode)
+          (is.step ground.table ground.free ground.piece way.from_x way.from_y ∙ way.first)
 
   turn-covers : (key : Key) (from to : Rotation) (S : States) (a b : ℕ) (t : Placement) → IsTurn key from to → LiesWithin (S from) N → S from a b ≡ true → step_in ground.table ground.free (state_of ground.piece from a b) key ≡ Some t → has_state (turn_of from to S) t ≡ true
   unfolding union turned_in has_state
