@@ -42,7 +42,9 @@ pub record InPlace (S : Sequences) (n : Position) (q : Placement) (s : List Plac
 pub in_place : (S : Sequences) (n : Position) (q : Placement) (s : List Placement) → Contains (of_place S n q) s → InPlace S n q s
 unfolding of_place
 in_place S n q s =
-    search (rules, (cond_both (is_below n.rows q) (map (λ s. q ∷ s) (S (after_of n q))) []), (Contains-from_map (λ s. q ∷ s) (S (after_of n q)) s), (Contains-none s))
+    cond_both (is_below n.rows q) (map (λ s. q ∷ s) (S (after_of n q))) [] (λ l. Contains l s → InPlace S n q s)
+    (λ below among. let found = Contains-from_map (λ s. q ∷ s) (S (after_of n q)) s among in record { below = below; rest = found.0; among = found.1; is = found.2 })
+    (λ _ among. absurd (Contains-none s among))
 
 pub to_place : (S : Sequences) (n : Position) (q : Placement) (s : List Placement) → is_below n.rows q ≡ true → Contains (S (after_of n q)) s → Contains (of_place S n q) (q ∷ s)
 unfolding of_place

@@ -11,7 +11,7 @@ use Rattle.srs.proofs.CallerLemmas.{Contains-from_flat_map, filter-each}
 use Rattle.moves.specs.PlaceTest.{is_place}
 use Rattle.well.specs.LockLaws.{is_below}
 use Rattle.enumerate.specs.Position.{Position, after_of, may_play, places_at, is_live}
-use Rattle.enumerate.specs.Events.{Flood, found, entered, tried_in_turn, enter, sought}
+use Rattle.enumerate.specs.Events.{Event, Flood, found, entered, tried_in_turn, enter, sought}
 use Rattle.enumerate.proofs.Solutions.{Sequences, in_kind, of_kind, of_place, sols}
 use Rattle.enumerate.proofs.Walks.{finds-enter, found-append, found-if_live, found-tried_in_turn, found-places, prefixed, prefixed-append, prefixed-cons}
 use Rattle.enumerate.proofs.Resumed.{all-past, following, past}
@@ -55,4 +55,16 @@ found-sought (suc left) prefix n [] =
     (found-tried_in_turn (enter left) (sols left) (finds-enter left) prefix n all_pieces ∙ ap (prefixed prefix) (sym (all-past_nil (sols left) n all_pieces)))
     ∙ ap (prefixed prefix) (sym (filter-if (is_live left n) (past []) (flat_map (of_kind (sols left) n) all_pieces)))
 found-sought (suc left) prefix n (q ∷ given) =
-    search (rules, (found-if_live (is_live left n) prefix), found-append, (found-kind left prefix n q given (found-sought left (prefix ++ q ∷ []) (after_of n q) given) (may_play n.line q.piece)), (found-tried_in_turn (enter left) (sols left) (finds-enter left) prefix n (drop (piece_code q.piece) all_pieces)), (prefixed-append prefix), (all-past (sols left) n q given), (filter-if (is_live left n) (past (q ∷ given)) (flat_map (of_kind (sols left) n) all_pieces)))
+    found-if_live (is_live left n) prefix (kind ++ tried_in_turn (enter left) prefix n (drop (piece_code q.piece) all_pieces)) (filter (past (q ∷ given)) (flat_map (of_kind (sols left) n) all_pieces))
+    (found-append kind (tried_in_turn (enter left) prefix n (drop (piece_code q.piece) all_pieces))
+    ∙ (λ i. found-kind left prefix n q given (found-sought left (prefix ++ q ∷ []) (after_of n q) given) (may_play n.line q.piece) i
+    ++ found-tried_in_turn (enter left) (sols left) (finds-enter left) prefix n (drop (piece_code q.piece) all_pieces) i)
+    ∙ sym (prefixed-append prefix of_kind_past (flat_map (of_kind (sols left) n) (drop (piece_code q.piece) all_pieces)))
+    ∙ ap (prefixed prefix) (sym (all-past (sols left) n q given)))
+    ∙ ap (prefixed prefix) (sym (filter-if (is_live left n) (past (q ∷ given)) (flat_map (of_kind (sols left) n) all_pieces)))
+  where
+    kind : List Event
+    kind = if may_play n.line q.piece then Flood ∷ ((if is_place n.table n.field n.mode q && is_below n.rows q then sought left (prefix ++ q ∷ []) (after_of n q) given else []) ++ flat_map (entered (enter left) prefix n) (filter (is_above placement_cmp (Some q)) (places_at n q.piece))) else []
+
+    of_kind_past : List (List Placement)
+    of_kind_past = if may_play n.line q.piece then following (sols left) n q given (is_place n.table n.field n.mode q) ++ flat_map (of_place (sols left) n) (filter (is_above placement_cmp (Some q)) (places_at n q.piece)) else []

@@ -1,6 +1,7 @@
 -- What plays to the end leaves a tiling, and the supply of a queue set is that of its line.
-use Rattle.std.proofs.Common.{◌≡◌, ◌↔◌, ℕ, ◌+◌, ◌-◌, ◌≤◌, Bool, true, cond, List, [], ◌∷◌, ◌++◌, length, refl, sym, ap, ◌∙◌, arith, rules}
+use Rattle.std.proofs.Common.{◌≡◌, ◌↔◌, ℕ, ◌+◌, ◌-◌, ◌≤◌, Bool, true, cond, List, [], ◌∷◌, ◌++◌, length, refl, sym, ap, subst, ◌∙◌, arith, rules}
 use Rattle.std.specs.Prelude.{count_by, min, ◌==◌}
+use Rattle.std.specs.Bool.{one_answer}
 use Rattle.std.proofs.lemmas.Bool.{cases_Bool, cond-false, cond-true}
 use Rattle.std.proofs.Math.Path.{fun_ext}
 use Rattle.std.proofs.lemmas.List.{length-map}
@@ -24,7 +25,6 @@ use Rattle.prune.specs.Tiling.{Supply, Tiling, supply_in}
 use Rattle.prune.specs.OnePart.{less_one}
 use Rattle.prune.specs.Laws.{ClearsRows, kinds_placed}
 use Rattle.prune.proofs.CallerLemmas.{cleared_is_tiled, full_rows_may_stand, more_pieces}
-use Rattle.empty_cells.specs.SupplyWords
 use Rattle.empty_cells.specs.Empties.{all_but, without_placement}
 use Rattle.empty_cells.specs.HasTiling.{has_tiling}
 use Rattle.empty_cells.proofs.CallerLemmas.{left_by_placement, tiling_below, tiling_decided}
@@ -35,6 +35,7 @@ use Rattle.enumerate.specs.Setups.{position_of}
 use Rattle.enumerate.specs.Position.{Position, after_of, can_be_tiled, is_live}
 use Rattle.problem.proofs.CallerLemmas.{IsLow, locked-low}
 use Rattle.moves.proofs.CallerLemmas.{place-free}
+use Rattle.empty_cells.specs.SupplyWords
 
 -- what plays clears all rows
 pub plays-clears : (table : Table) (mode : DropMode) (F : Field) (rows : ℕ) (s : List Placement) → Plays table mode F rows s → ClearsRows F rows s
@@ -53,13 +54,33 @@ pieces-counted s piece = sym (counted s)
 pub played-tiled : (n : Position) (s : List Placement) → IsLow n.field n.rows → Plays n.table n.mode n.field n.rows s → QueuesPermit n.line (n.line.played ++ pieces_of s) → can_be_tiled (length s) n ≡ true
 unfolding can_be_tiled
 played-tiled n s low plays permitted =
-    search (rules, (tiling_decided n.field n.rows (supply_of n.line (length s))), (more_pieces n.field n.rows (kinds_placed s) (supply_of n.line (length s))), (cleared_is_tiled n.field n.rows s low.within), (plays-clears n.table n.mode n.field n.rows s plays), (length-map s (λ q. q.piece)), (supply-enough n.line (pieces_of s)), (pieces-counted s))
+    (tiling_decided n.field n.rows (supply_of n.line (length s))).1
+    (more_pieces n.field n.rows (kinds_placed s) (supply_of n.line (length s)) enough
+    (cleared_is_tiled n.field n.rows s low.within (record { none = low.none }) (plays-clears n.table n.mode n.field n.rows s plays)))
+  where
+    enough : (piece : Piece) → kinds_placed s piece ≤ supply_of n.line (length s) piece
+    enough piece =
+        let most = subst (λ k. count_by (λ other. piece_code other == piece_code piece) (pieces_of s) ≤ supply_of n.line k piece) (length-map s (λ q. q.piece)) (supply-enough n.line (pieces_of s) piece permitted) in
+        omega (arith, pieces-counted s piece)
 
 -- what a placement leaves has a tiling, before its full rows go, exactly where it has one after
 pub left-tiled : (F E : Field) (rows : ℕ) (q : Placement) (supply : Supply) (answer : Bool) → rows ≤ 8 → LiesBelow F rows → is_free F q ≡ true → is_below rows q ≡ true →
     E ≡ without_placement (difference (rows_below rows) F) q → ((answer ≡ true) ↔ Tiling (all_but E) 8 supply) → answer ≡ has_tiling (locked F q) (rows - rows_removed F q) supply
 left-tiled F E rows q supply answer few below free placed is answers =
-    search (rules, answers.0, answers.1, (tiling_decided (locked F q) (rows - rows_removed F q) supply), (left_by_placement F rows q), (tiling_below (together F q) rows 8 supply few), (full_rows_may_stand F q rows supply))
+    one_answer {P = Tiling (locked F q) (rows - rows_removed F q) supply} answer (has_tiling (locked F q) (rows - rows_removed F q) supply) (
+      λ yes. locking.0 (standing.0 (subst (λ E. Tiling (all_but E) 8 supply) left (answers.0 yes))),
+      λ tiling. answers.1 (subst (λ E. Tiling (all_but E) 8 supply) (sym left) (standing.1 (locking.1 tiling))),
+    )
+    (tiling_decided (locked F q) (rows - rows_removed F q) supply)
+  where
+    left : E ≡ difference (rows_below rows) (together F q)
+    left = is ∙ left_by_placement F rows q
+
+    standing : Tiling (all_but (difference (rows_below rows) (together F q))) 8 supply ↔ Tiling (together F q) rows supply
+    standing = tiling_below (together F q) rows 8 supply few
+
+    locking : Tiling (together F q) rows supply ↔ Tiling (locked F q) (rows - rows_removed F q) supply
+    locking = full_rows_may_stand F q rows supply (omega arith) below free placed
 
 -- ---- what may be played after one more piece
 

@@ -1,5 +1,5 @@
 -- The least placement is taken out until it is above the bound.
-use Rattle.std.proofs.Common.{◌≡◌, false, ◌∷◌, length, refl, sym, ap, subst, ◌∙◌, arith, rules}
+use Rattle.std.proofs.Common.{◌≡◌, false, ◌∷◌, length, refl, sym, ap, subst, ◌∙◌, arith}
 use Rattle.std.specs.Prelude.{Contains, Some, None}
 use Rattle.srs.specs.Order.{placement_cmp}
 use Rattle.srs.specs.Placements.{placements_of}
@@ -31,8 +31,13 @@ loop-placement-smaller c =
     )
 
 pub loop-placement-preserved : goal.loop-placement-preserved
-loop-placement-preserved c =
-    search (rules, c.loop-placement.invariant.held, (taken-held c.loop-placement.places c.take_least.new.self c.in-Some.ensures.piece (Some c.in-Some.placement) c.in-Some.ensures.rest), (taken-same c.loop-placement.places c.take_least.new.self c.in-Some.ensures.piece (Some c.in-Some.placement) c.in-Some.ensures.rest c.args.bound.now (λ q e. subst (λ p. is_above placement_cmp c.args.bound.now p ≡ false) (some_same e) (sym c.is_above.ensures ∙ c.if-is_above.false))))
+loop-placement-preserved c = record {
+  piece = c.in-Some.ensures.piece ∙ c.loop-placement.invariant.piece;
+  held = λ q is. c.loop-placement.invariant.held q (taken-held c.loop-placement.places c.take_least.new.self c.in-Some.ensures.piece (Some c.in-Some.placement) c.in-Some.ensures.rest q is);
+  same = c.loop-placement.invariant.same
+      ∙ taken-same c.loop-placement.places c.take_least.new.self c.in-Some.ensures.piece (Some c.in-Some.placement) c.in-Some.ensures.rest c.args.bound.now
+      (λ q e. subst (λ p. is_above placement_cmp c.args.bound.now p ≡ false) (some_same e) (sym c.is_above.ensures ∙ c.if-is_above.false));
+}
 
 pub returns-clause-next : goal.returns-clause-next
 returns-clause-next c =

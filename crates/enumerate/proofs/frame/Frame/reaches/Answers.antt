@@ -1,5 +1,5 @@
 -- The placements that are left rise, so that the search for one ends at it or past it.
-use Rattle.std.proofs.Common.{◌≡◌, refl, sym, subst, rules}
+use Rattle.std.proofs.Common.{◌≡◌, ◌∷◌, refl, sym, subst, rules}
 use Rattle.std.specs.Prelude.{Contains, Some}
 use Rattle.srs.proofs.CallerLemmas.{Contains-here, Contains-none}
 use Rattle.enumerate.specs.Frames.{places_left}
@@ -29,7 +29,11 @@ loop-placement-preserved c =
 
 pub returns-in-Equal : goal.returns-in-Equal
 returns-in-Equal c =
-    search (rules, (c.in-Equal.ensures.equal.0 refl), (Contains-here c.in-Some.placement (places_left c.take_upcoming.new.self.places (Some c.in-Some.placement))), c.loop-placement.invariant.same.0)
+    let same : c.in-Some.placement ≡ c.args.target.now = c.in-Equal.ensures.equal.0 refl in
+    let here : Contains (places_left c.loop-placement.probe.places c.loop-placement.probe.entered) c.args.target.now =
+    subst (λ l. Contains l c.args.target.now) (sym c.in-Some.ensures.next.0)
+    (subst (λ q. Contains (c.in-Some.placement ∷ places_left c.take_upcoming.new.self.places (Some c.in-Some.placement)) q) same (Contains-here c.in-Some.placement (places_left c.take_upcoming.new.self.places (Some c.in-Some.placement)))) in
+    (λ _. c.loop-placement.invariant.same.0 here, λ _. refl)
 
 pub returns-in-Greater : goal.returns-in-Greater
 returns-in-Greater c =

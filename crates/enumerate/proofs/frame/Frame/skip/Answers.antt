@@ -18,8 +18,10 @@ use Rattle.enumerate.proofs.frame.Frame.skip.Goals as goal
 
 pub returns-then-not-may_play-clause-skips : goal.returns-then-not-may_play-clause-skips
 unfolding places_left
-returns-then-not-may_play-clause-skips g c =
-    search (rules, skips-same, (passes-kind (flood_table c.args.rules.now) c.args.drop_mode c.args.self.now), (may_play-answer (queues_in_play c.args.self.now.setup.line.queues) c.args.target.now.piece c.may_play.result c.may_play.ensures.permitted))
+returns-then-not-may_play-clause-skips g c = λ prefix given.
+    skips-same _ _ c.args.steps.now
+    (passes-kind (flood_table c.args.rules.now) c.args.drop_mode c.args.self.now _ refl c.args.target.now c.requires.fresh.live c.code-self.ensures
+    (may_play-answer (queues_in_play c.args.self.now.setup.line.queues) c.args.target.now.piece c.may_play.result c.may_play.ensures.permitted ∙ c.if-not-may_play.true) refl prefix given)
 
 pub flood-requires-clause-permitted : goal.flood-requires-clause-permitted
 flood-requires-clause-permitted g c = may_play-answer (queues_in_play c.args.self.now.setup.line.queues) c.args.target.now.piece c.may_play.result c.may_play.ensures.permitted ∙ c.if-not-may_play.false
@@ -43,7 +45,8 @@ unfolding position_of
 enter-requires-clause-lockable g c =
     let placed = held-place (position_of (flood_table c.args.rules.now) c.args.drop_mode c.args.self.now.setup) c.args.target.now _ c.flood.ensures.places c.reaches-reached.result c.reaches-reached.ensures c.if-not-reached.false in
     place-lockable (flood_table c.args.rules.now) (filled c.flood.new.self.setup.well) c.args.drop_mode c.args.target.now.piece c.args.target.now refl
-    (search (rules, (is_place-decides (flood_table c.args.rules.now) (filled c.flood.new.self.setup.well) c.args.drop_mode c.args.target.now)))
+    ((is_place-decides (flood_table c.args.rules.now) (filled c.flood.new.self.setup.well) c.args.drop_mode c.args.target.now).0
+    (subst (λ (s : Setup). is_place (flood_table c.args.rules.now) (filled s.well) c.args.drop_mode c.args.target.now ≡ true) (sym c.flood.ensures.same) placed))
 
 pub enter-requires-clause-below : goal.enter-requires-clause-below
 unfolding position_of
@@ -92,7 +95,8 @@ unfolding position_of
 is_worth-requires-clause-lockable g c =
     let placed = held-place (position_of (flood_table c.args.rules.now) c.args.drop_mode c.args.self.now.setup) c.args.target.now _ c.flood.ensures.places c.reaches-reached.result c.reaches-reached.ensures c.if-not-reached.false in
     place-lockable (flood_table c.args.rules.now) (filled c.flood.new.self.setup.well) c.args.drop_mode c.args.target.now.piece c.args.target.now refl
-    (search (rules, (is_place-decides (flood_table c.args.rules.now) (filled c.flood.new.self.setup.well) c.args.drop_mode c.args.target.now)))
+    ((is_place-decides (flood_table c.args.rules.now) (filled c.flood.new.self.setup.well) c.args.drop_mode c.args.target.now).0
+    (subst (λ (s : Setup). is_place (flood_table c.args.rules.now) (filled s.well) c.args.drop_mode c.args.target.now ≡ true) (sym c.flood.ensures.same) placed))
 
 pub is_worth-requires-clause-below : goal.is_worth-requires-clause-below
 unfolding position_of

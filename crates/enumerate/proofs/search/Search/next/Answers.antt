@@ -1,14 +1,16 @@
 -- What is still to come loses its first solution, which becomes the bound.
-use Rattle.std.proofs.Common.{refl, sym, ap, ◌∙◌, arith, rules}
+use Rattle.std.proofs.Common.{◌≡◌, [], ◌∷◌, take, refl, sym, ap, subst, ◌∙◌, arith, rules}
 use Rattle.std.specs.Prelude.{None, Some, filter}
 use Rattle.srs.specs.Order.{sequence_cmp}
 use Rattle.srs.specs.Rising.{is_above}
 use Rattle.srs.specs.Rules.{table_of}
 use Rattle.enumerate.specs.Events.{found, floods}
+use Rattle.enumerate.specs.Frames.{stacked}
 use Rattle.enumerate.specs.Items.{items_of}
 use Rattle.enumerate.specs.Rest.{events_from, whole_from}
 use Rattle.dead_memo.specs.Memo.{kept}
 use Rattle.enumerate.specs.ViewOf.{dead_questions, after_given, events_to_come, solutions, view_of, whole_of, work}
+use Rattle.problem.specs.SolutionList.{IsList}
 use Rattle.problem.proofs.CallerLemmas.{next-first, next-none}
 use Rattle.enumerate.proofs.SearchFacts.{search-list}
 use Rattle.enumerate.proofs.SearchLemmas.{none-found, none-used, one-found}
@@ -64,7 +66,11 @@ returns-clause-list g c = search-list c.args.self.now
 
 pub returns-clause-found : goal.returns-clause-found
 unfolding solutions events_to_come events_from view_of
-returns-clause-found g c = search (rules, one-found, c.copied.ensures)
+returns-clause-found g c = (
+  one-found _ _ _ c.go_on-self.result c.if-self-eq0.false c.go_on-self.ensures.found
+      ∙ ap (λ p. p ∷ found (stacked (table_of c.args.self.now.problem.rules) c.args.self.now.problem.drop_mode [] (take c.go_on-self.result c.go_on-self.new.frames))) (sym c.path-sequence.ensures),
+  λ i. record { problem = c.args.self.now.problem; queue = items_of c.args.self.now.queue; bound = Some (c.copied.ensures i) },
+)
 
 pub returns-clause-after : goal.returns-clause-after
 unfolding after_given
@@ -86,7 +92,10 @@ returns-then-self-eq0-clause-next g c =
 pub returns-clause-next : goal.returns-clause-next
 unfolding view_of solutions events_to_come
 returns-clause-next g c =
-    search (rules, one-found, (next-first c.args.self.now.problem (items_of c.args.self.now.queue) (items_of c.args.self.now.bound) c.path-sequence.result.items), (search-list c.args.self.now))
+    let first : solutions c.args.self.now ≡ c.path-sequence.result.items ∷ found (stacked (table_of c.args.self.now.problem.rules) c.args.self.now.problem.drop_mode [] (take c.go_on-self.result c.go_on-self.new.frames)) =
+    one-found _ _ _ c.go_on-self.result c.if-self-eq0.false c.go_on-self.ensures.found
+    ∙ ap (λ p. p ∷ found (stacked (table_of c.args.self.now.problem.rules) c.args.self.now.problem.drop_mode [] (take c.go_on-self.result c.go_on-self.new.frames))) (sym c.path-sequence.ensures) in
+    next-first c.args.self.now.problem (items_of c.args.self.now.queue) (items_of c.args.self.now.bound) c.path-sequence.result.items _ (subst (IsList (view_of c.args.self.now)) first (search-list c.args.self.now))
 
 pub returns-then-self-eq0-clause-dead : goal.returns-then-self-eq0-clause-dead
 unfolding dead_questions kept
