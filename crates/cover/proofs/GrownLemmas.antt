@@ -1,5 +1,5 @@
 -- A tree with one node more below another one.
-use Rattle.std.proofs.Common.{◌≡◌, ℕ, ◌+◌, ◌<◌, ◌≤◌, true, false, nat_lt, get_or, List, [], ◌∷◌, ◌++◌, length, Some, slice_get, set, refl, sym, ap, subst, ◌∙◌, arith, length-append, rules}
+use Rattle.std.proofs.Common.{◌≡◌, ℕ, ◌+◌, ◌<◌, ◌≤◌, true, false, nat_lt, get_or, List, [], ◌∷◌, ◌++◌, length, Some, slice_get, set, refl, sym, ap, subst, ◌∙◌, inl, inr, arith, length-append, rules}
 use Rattle.std.proofs.lemmas.Bool.{cases_eq, cases_lt, eq-eqb, ne_eqb, and_right, or_right}
 use Rattle.std.proofs.lemmas.List.{length-set}
 use Rattle.std.proofs.lemmas.Option.{slice_get_read, slice_get_past}
@@ -74,14 +74,23 @@ module _ (old : List Node) (at : ℕ) (kind : Piece) (blank first linked : Node)
       search (rules, (cases_lt other (length old)), (same-end old new other), (at-other other apart), (get-before old other blank), (cases_eq other (length old)), (end-at new other blank), (get-pushed old other blank), (end-past old other), (end-past new other), long)
 
   child-others : (other : ℕ) (second : Piece) → (other ≡ at → piece_code second ≡ piece_code kind → ⊥) → child new other second ≡ child old other second
-  child-others other second apart =
-      search (rules, (cases_eq other), (child-at new), at-linked, (ne_eqb (piece_code second) (piece_code kind)), (child-at old), (child-elsewhere other second))
+  child-others other second apart = elim (cases_eq other at) [
+    | inl same ↦
+        subst (λ n. child new n second ≡ child old n second) (sym same)
+        (child-at new at linked second at-linked ∙ link.others second (ne_eqb (piece_code second) (piece_code kind) (apart same)) ∙ sym (child-at old at first second there))
+    | inr elsewhere ↦ child-elsewhere other second elsewhere
+  ]
 
   end-others : (other : ℕ) → has_end new other ≡ has_end old other
   end-others other = search (rules, (cases_eq other), (end-at new), at-linked, (end-at old), (end-elsewhere other))
 
   pub grown : IsGrown old at kind new
-  grown = search (rules, (child-at new), at-linked, child-others, end-others, long)
+  grown = record {
+    there = child-at new at linked kind at-linked ∙ link.there;
+    others = child-others;
+    ends = end-others;
+    long = long;
+  }
 
 -- the same of a list to which the blank node was pushed
 pub grown-pushed : (old pushed : List Node) (at : ℕ) (kind : Piece) (number : ℕ) (blank first linked : Node) → pushed ≡ old ++ blank ∷ [] → at < length old → IsBlank blank

@@ -41,7 +41,13 @@ Begins nodes hold at pieces =
 
 taken-begins : (nodes : List Node) (hold : Hold) (at : ℕ) (pieces kinds : List Piece) → has_end nodes at ≡ false → spells nodes at kinds ≡ true → Takes hold pieces kinds → Begins nodes hold at pieces
 taken-begins nodes hold at pieces [] open_end spelled taken = let ended = here-spells nodes at spelled in cc
-taken-begins nodes hold at pieces (kind ∷ kinds) open_end spelled taken = search (rules, (below-spells nodes), (take-cases hold pieces kind taken.0 taken.1))
+taken-begins nodes hold at pieces (kind ∷ kinds) open_end spelled taken =
+    let split = below-spells nodes at kind kinds spelled in
+    let below : TakesBelow nodes hold at kind taken.0 = record { some = split.0; below = record { kinds = kinds; spelled = split.1; taken = taken.2 } } in
+    elim (take-cases hold pieces kind taken.0 taken.1) [
+      | inl first ↦ inl (kind, taken.0, first, below)
+      | inr second ↦ inr (kind, taken.0, second.0, second.1, below)
+    ]
 
 -- ---- where the queue is another one that begins with the same pieces
 

@@ -1,12 +1,12 @@
 -- A queue permits a kept list exactly where one of the tree's can be taken from its pieces at hand.
-use Rattle.std.proofs.Common.{◌≡◌, ℕ, ◌<◌, ◌≤◌, Some, List, length, slice_get, inl, inr, arith, rules}
+use Rattle.std.proofs.Common.{◌≡◌, ℕ, ◌<◌, ◌≤◌, Some, List, length, slice_get, sym, subst, ◌∙◌, inl, inr, arith, rules}
 use Rattle.std.proofs.lemmas.Bool.{cases_lt}
 use Rattle.std.proofs.lemmas.Option.{slice_get_within}
 use Rattle.srs.specs.declared.piece.Piece.{Piece}
 use Rattle.queue_pattern.specs.Pattern.{elements_of}
 use Rattle.queue_pattern.specs.Queues.{queues}
 use Rattle.hold_queue.specs.declared.hand.Hand.{Hand}
-use Rattle.hold_queue.specs.AtHand.{at_hand}
+use Rattle.hold_queue.specs.AtHand.{at_hand, Takes}
 use Rattle.hold_queue.specs.Hand.{pieces_at}
 use Rattle.hold_queue.proofs.CallerLemmas.{permits-of_takes, takes-of_permits}
 use Rattle.problem.specs.declared.problem.Problem.{Problem}
@@ -32,7 +32,12 @@ module _ (problem : Problem) (lists : List (List Piece)) (nodes : List Node) (ha
   taken-permitted number queue there one = search (rules, has_kinds-contained, permits-of_takes)
 
   permitted-taken : (number : ℕ) → (permitted : IsPermitted problem lists number) → TakesOne nodes problem.hold 0 (pieces_at permitted.queue hand)
-  permitted-taken number permitted = search (rules, has_kinds-from, takes-of_permits)
+  permitted-taken number permitted = record {
+    kinds = permitted.kinds;
+    spelled = listed permitted.kinds ∙ has_kinds-from lists permitted.kinds permitted.listed;
+    taken = subst (λ l. Takes problem.hold l permitted.kinds) (sym (at_start permitted.queue))
+        (takes-of_permits problem.hold permitted.queue problem.held permitted.kinds permitted.permitted);
+  }
 
   pub next-found : (from number : ℕ) (queue : List Piece) → NoneBetween problem lists from number → slice_get (queues (elements_of problem.pattern)) number ≡ Some queue
       → TakesOne nodes problem.hold 0 (pieces_at queue hand) → IsLeastFrom (IsPermitted problem lists) from number
