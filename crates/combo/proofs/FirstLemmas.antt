@@ -49,46 +49,21 @@ up_to_next IsMember bound q p next member up_to = elim (cases_Bool (is_above pla
 module _ (table : Table) (mode : DropMode) (hold : Hold) (F : Field) (queue : List Piece) (taken : Taken) (count : ℕ) (some : 0 < count) where
   -- before the first placement
   pub begins : AreShorter (RunsOnUpTo table mode hold F queue taken None) count
-  begins = record { each = each }
-    where
-      each : (run : List Placement) → RunsOnUpTo table mode hold F queue taken None run → length run < count
-      each [] member = some
-      each (q ∷ rest) member = absurd (false≢true (sym member.1))
+  begins = search (rules, false≢true)
 
   -- a placement after which no run is long enough
   pub goes_on : (bound : Option Placement) (q : Placement) → AreShorter (RunsOnUpTo table mode hold F queue taken bound) count → IsLeastAbove placement_cmp (IsAt table mode F taken) bound q
       → AreShorter (IsTakenRun table mode (locked F q) hold (pieces_at queue taken.rest)) (count - 1) → AreShorter (RunsOnUpTo table mode hold F queue taken (Some q)) count
-  goes_on bound q so_far least rest = record { each = each }
-    where
-      each : (run : List Placement) → RunsOnUpTo table mode hold F queue taken (Some q) run → length run < count
-      each [] member = some
-      each (p ∷ run) member = elim (up_to_next (IsAt table mode F taken) bound q p least (member.0.0, member.0.1) member.1) [
-        | inl below ↦ so_far.each (p ∷ run) (member.0, below)
-        | inr same ↦ omega (arith, some, rest.each run (subst (λ x. IsTakenRun table mode (locked F x) hold (pieces_at queue taken.rest) run) same member.0.3))
-      ]
+  goes_on bound q so_far least rest = search (rules, (up_to_next (IsAt table mode F taken) bound q), so_far.each, rest.each)
 
   -- one that removes no row
   pub passes : (bound : Option Placement) (q : Placement) → AreShorter (RunsOnUpTo table mode hold F queue taken bound) count → IsLeastAbove placement_cmp (IsAt table mode F taken) bound q
       → rows_removed F q ≡ 0 → AreShorter (RunsOnUpTo table mode hold F queue taken (Some q)) count
-  passes bound q so_far least none = record { each = each }
-    where
-      each : (run : List Placement) → RunsOnUpTo table mode hold F queue taken (Some q) run → length run < count
-      each [] member = some
-      each (p ∷ run) member = elim (up_to_next (IsAt table mode F taken) bound q p least (member.0.0, member.0.1) member.1) [
-        | inl below ↦ so_far.each (p ∷ run) (member.0, below)
-        | inr same ↦ absurd (omega (arith, member.0.2, ap (rows_removed F) same, none))
-      ]
+  passes bound q so_far least none = search (rules, (up_to_next (IsAt table mode F taken) bound q), so_far.each)
 
   -- after the last placement
   pub ends : (bound : Option Placement) → AreShorter (RunsOnUpTo table mode hold F queue taken bound) count → NoneAbove placement_cmp (IsAt table mode F taken) bound → AreShorter (RunsOn table mode hold F queue taken) count
-  ends bound so_far none = record { each = each }
-    where
-      each : (run : List Placement) → RunsOn table mode hold F queue taken run → length run < count
-      each [] member = some
-      each (p ∷ run) member = elim (cases_Bool (is_above placement_cmp bound p)) [
-        | inl above ↦ absurd (none.none p (member.0, member.1) above)
-        | inr below ↦ so_far.each (p ∷ run) (member, below)
-      ]
+  ends bound so_far none = search (rules, cases_Bool, none.none, so_far.each)
 
   -- a placement that begins a run which is long enough
   pub found : (bound : Option Placement) (q : Placement) (rest run : List Placement) → AreShorter (RunsOnUpTo table mode hold F queue taken bound) count → IsLeastAbove placement_cmp (IsAt table mode F taken) bound q
@@ -102,10 +77,7 @@ module _ (table : Table) (mode : DropMode) (hold : Hold) (F : Field) (queue : Li
       by : (p : Placement) (other : List Placement) → RunsOn table mode hold F queue taken (p ∷ other) → length other ≡ count - 1 → placement_cmp p q ≢ Less → (o : Ordering) → placement_cmp p q ≡ o
           → sequence_cmp (p ∷ other) (q ∷ rest) ≢ Less
       by p other member long least_q Less order less = least_q order
-      by p other member long least_q Equal order less =
-          let same : p ≡ q = placement_cmp-antisymmetric p q order in
-          rest_first.first other (subst (λ x. IsTakenRun table mode (locked F x) hold (pieces_at queue taken.rest) other) same member.3) long
-          (sym (ap (λ o. ordering_then o (sequence_cmp other rest)) order) ∙ less)
+      by p other member long least_q Equal order less = search (rules, (placement_cmp-antisymmetric p q order), (rest_first.first other))
       by p other member long least_q Greater order less = let greater : ordering_then Greater (sequence_cmp other rest) ≡ Less = sym (ap (λ o. ordering_then o (sequence_cmp other rest)) order) ∙ less in cc
 
       first : (other : List Placement) → RunsOn table mode hold F queue taken other → length other ≡ count → sequence_cmp other (q ∷ rest) ≢ Less
@@ -156,34 +128,11 @@ module _ (table : Table) (mode : DropMode) (hold : Hold) (F : Field) (queue : Li
   of_other run on = on_taken table mode hold F queue hand other (λ piece rest leaves. (ways.each piece rest).0 (inr leaves)) run on
 
   pub first_of_one : (run : List Placement) → AreInOrder one other → IsFirst (RunsOnIf table mode hold F queue one) count run → IsFirst (IsTakenRun table mode F hold (pieces_at queue hand)) count run
-  first_of_one run order so_far = record { member = of_one run so_far.member; long = so_far.long; first = first }
-    where
-      later : (one other : Option Taken) → AreInOrder one other → (run : List Placement) → length run ≡ count → BeginsWith one run → (p : Placement) (rest : List Placement) → BeginsWith other (p ∷ rest)
-          → sequence_cmp (p ∷ rest) run ≢ Less
-      later one None order run long on p rest is less = cc
-      later None (Some second) order [] long on p rest is less = absurd (omega (arith, some, long))
-      later None (Some second) order (q ∷ run) long on p rest is less = cc
-      later (Some first) (Some second) order [] long on p rest is less = absurd (omega (arith, some, long))
-      later (Some first) (Some second) order (q ∷ run) long on p rest is less =
-          before q p run rest (omega (arith, order, plays table mode hold F queue first q run on, plays table mode hold F queue second p rest is)) less
-
-      first : (r : List Placement) → IsMember r → length r ≡ count → sequence_cmp r run ≢ Less
-      first [] member long = absurd (omega (arith, some, long))
-      first (p ∷ rest) member long = elim (divided table mode hold F queue hand _ _ ways p rest member) [
-        | inl on ↦ so_far.first (p ∷ rest) on long
-        | inr on ↦ later one other order run so_far.long so_far.member p rest on
-      ]
+  first_of_one run order so_far = search (rules, (of_one run so_far.member), before, (plays table mode hold F queue), (divided table mode hold F queue), so_far.first)
 
   first_of_other : (run : List Placement) → AreShorter (RunsOnIf table mode hold F queue one) count → IsFirst (RunsOnIf table mode hold F queue other) count run
       → IsFirst (IsTakenRun table mode F hold (pieces_at queue hand)) count run
-  first_of_other run short so_far = record { member = of_other run so_far.member; long = so_far.long; first = first }
-    where
-      first : (r : List Placement) → IsMember r → length r ≡ count → sequence_cmp r run ≢ Less
-      first [] member long = absurd (omega (arith, some, long))
-      first (p ∷ rest) member long = elim (divided table mode hold F queue hand _ _ ways p rest member) [
-        | inl on ↦ absurd (omega (arith, long, short.each (p ∷ rest) on))
-        | inr on ↦ so_far.first (p ∷ rest) on long
-      ]
+  first_of_other run short so_far = search (rules, (of_other run so_far.member), (divided table mode hold F queue), short.each, so_far.first)
 
   -- or of the other one
   pub first_of_either : (result : Option (ArrayVec Placement)) → AreShorter (RunsOnIf table mode hold F queue one) count

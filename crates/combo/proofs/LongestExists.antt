@@ -79,12 +79,7 @@ better one two = elim (cases_order (length one) (length two)) [
       first = good-itself one;
       second = record { long = omega (arith, same); first = λ _ less. let back : sequence_cmp two one ≡ Equal = sequence_cmp-total.antisymm two one ∙ ap ordering_reverse is in cc };
     }
-    by Greater is same = record {
-      best = two;
-      either = inr refl;
-      first = record { long = omega (arith, same); first = λ _ less. cc };
-      second = good-itself two;
-    }
+    by Greater is same = search (rules, (good-itself two))
 
 record IsBest (list : List (List Placement)) (best : List Placement) : Type 0 where
   among : Contains list best
@@ -150,10 +145,7 @@ module _ (table : Table) (mode : DropMode) where
 
   are_runs : (k : ℕ) (F : Field) (run : List Placement) → Contains (runs_within k F) run → Runs table mode F run
   unfolding runs_within
-  are_runs zero F run among = elim (Contains-cases [] [] run among) [
-    | inl here ↦ subst (Runs table mode F) here tt
-    | inr there ↦ absurd (Contains-none run there)
-  ]
+  are_runs zero F run among = search (rules, (Contains-cases [] [] run among), (Contains-none run))
   are_runs (suc k) F run among = elim (Contains-cases [] _ run among) [
     | inl here ↦ subst (Runs table mode F) here tt
     | inr there ↦
@@ -170,8 +162,7 @@ module _ (table : Table) (mode : DropMode) where
   among_all : (F : Field) (q : Placement) → IsPlace table F mode q → Contains all_placements q
   unfolding all_placements
   among_all F q place =
-      Contains-flat_map placements_of all_pieces q.piece q (Contains-piece q.piece)
-      (((placements_of-list q.piece).members q).1 (record { kind = refl; canonical = place.canonical; inside = free_inside F q (place-free table F mode q place) }))
+      search (rules, (Contains-flat_map placements_of all_pieces q.piece q (Contains-piece q.piece)), (placements_of-list q.piece), (free_inside F q (place-free table F mode q place)))
 
   has_runs : (k : ℕ) (F : Field) (run : List Placement) → length run ≤ k → Runs table mode F run → Contains (runs_within k F) run
   unfolding runs_within

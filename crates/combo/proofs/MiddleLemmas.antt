@@ -1,5 +1,5 @@
 -- Walls in the outermost columns, and gaps in the four in the middle.
-use Rattle.std.proofs.Common.{◌≡◌, ℕ, zero, suc, ◌+◌, ◌*◌, ◌/◌, ◌<◌, ◌≤◌, true, false, not, ◌&&◌, List, length, refl, subst, ap, inl, inr, arith, rules}
+use Rattle.std.proofs.Common.{◌≡◌, ℕ, zero, suc, ◌+◌, ◌*◌, ◌/◌, ◌<◌, ◌≤◌, true, false, not, ◌&&◌, List, length, refl, arith, rules}
 use Rattle.std.proofs.lemmas.Bool.Decides.{nat_tests}
 use Rattle.std.proofs.lemmas.Bool.{and_from, both_ways, cases_Bool, cases_eq, false_from_ne_true, or_from, or_left, or_right}
 use Rattle.srs.proofs.CallerLemmas.{and_first, and_second}
@@ -26,16 +26,13 @@ empty_from w x height empty y above = false_from_ne_true _ (λ has. both_ways _ 
 pub has_empty-from : (F : Field) (x height y : ℕ) → y < height → F x y ≡ false → has_empty F x height ≡ true
 unfolding has_empty
 has_empty-from F x zero y below empty = absurd (omega (arith, below))
-has_empty-from F x (suc n) y below empty = elim (cases_eq y n) [
-  | inl same ↦ or_right (has_empty F x n) (not (F x n)) (ap not (subst (λ k. F x k ≡ false) same empty))
-  | inr apart ↦ or_left (has_empty F x n) (not (F x n)) (has_empty-from F x n y (omega (arith, below, apart)) empty)
-]
+has_empty-from F x (suc n) y below empty =
+    search (rules, (cases_eq y n), (or_right (has_empty F x n) (not (F x n))), (or_left (has_empty F x n) (not (F x n))), (has_empty-from F x n y))
 
 pub has_empty-none : (F : Field) (x height : ℕ) → ((y : ℕ) → y < height → F x y ≡ true) → has_empty F x height ≡ false
 unfolding has_empty
 has_empty-none F x zero filled_below = refl
-has_empty-none F x (suc n) filled_below =
-    or_from (has_empty F x n) (not (F x n)) (has_empty-none F x n (λ y below. filled_below y (omega (arith, below)))) (ap not (filled_below n (omega arith)))
+has_empty-none F x (suc n) filled_below = search (rules, (or_from (has_empty F x n) (not (F x n))), (has_empty-none F x n))
 
 in_three : (F : Field) (x y : ℕ) → has_three F x y ≡ true → (F x y ≡ true) × (F (x + 1) y ≡ true) × (F (x + 2) y ≡ true)
 in_three F x y three = search rules
@@ -51,14 +48,8 @@ module _ (F : Field) (y : ℕ) (gaps : has_gaps F y ≡ true) where
 
   not_full : is_full F y ≡ false
   unfolding is_full
-  not_full = elim (cases_Bool (is_full F y)) [
-    | inl full ↦ absurd (both_ways _ (none full) (and_second (has_three F 0 y && has_three F 7 y) (not (has_three F 3 y && F 6 y)) gaps))
-    | inr other ↦ other
-  ]
-    where
-      none : is_full F y ≡ true → not (has_three F 3 y && F 6 y) ≡ false
-      none full = let has : (x : ℕ) → x < 10 → F x y ≡ true = λ x within. cell_from_full F x y within full in
-          rw (has 3 (omega arith), has 4 (omega arith), has 5 (omega arith), has 6 (omega arith)) refl
+  not_full =
+      search (rules, (cases_Bool (is_full F y)), both_ways, (and_second (has_three F 0 y && has_three F 7 y) (not (has_three F 3 y && F 6 y)) gaps), (cell_from_full F))
 
 -- a middle column is three or more away from the outermost ones
 far : (x : ℕ) → is_middle x ≡ true → (3 ≤ x) × (x ≤ 6)
@@ -66,20 +57,8 @@ far x middle = (grind (arith, nat_tests), grind (arith, nat_tests))
 
 pub between : (F : Field) (height : ℕ) → height ≤ 22 → ((y : ℕ) → y < height → has_gaps F y ≡ true) → ((y : ℕ) → height ≤ y → F 0 y ≡ false) → ((y : ℕ) → height ≤ y → F 9 y ≡ false)
     → HasWalls F (is_gap F height) height 0 9
-between F height low gaps left right = record {
-  low = low;
-  gaps = λ x y within below empty. and_from (is_middle x) (has_empty F x height) (gaps_in_middle F y (gaps y below) x within empty) (has_empty-from F x height y below empty);
-  none_full = λ y below. not_full F y (gaps y below);
-  apart = omega arith;
-  inside = omega arith;
-  far_left = λ x gap. inr (omega (arith, (far x (and_first (is_middle x) (has_empty F x height) gap)).0));
-  far_right = λ x gap. inl (omega (arith, (far x (and_first (is_middle x) (has_empty F x height) gap)).1));
-  empty_left = left;
-  empty_right = right;
-}
+between F height low gaps left right = search (rules, and_from, (gaps_in_middle F), (has_empty-from F), (not_full F), far, and_first)
 
 pub most_by_room : (F : Field) (height below gaps : ℕ) → HasWalls F (is_gap F height) height 0 9 → below ≡ empties_below F height → gaps ≡ open_gaps F (is_gap F height) height
     → (table : Table) (mode : DropMode) (run : List Placement) → Runs table mode F run → length run ≤ (below + 3 * gaps) / 4
-most_by_room F height below gaps walls empty counted table mode run runs =
-    let room = runs_have_room table mode F (is_gap F height) height 0 9 run walls runs in
-    omega (arith, room, counted, empty)
+most_by_room F height below gaps walls empty counted table mode run runs = search (rules, (runs_have_room table mode F (is_gap F height) height 0 9 run walls runs))

@@ -59,9 +59,7 @@ module _ (q : Placement) where
   -- two cells are at most three columns apart
   pub within_three : (x y u v : ℕ) → Has x y → Has u v → u ≤ x + 3
   unfolding less
-  within_three x y u v one other =
-      let apart : (pos u -ℤ pos q.x) ≤ℤ ((pos x -ℤ pos q.x) +ℤ pos 3) = int_le-true _ _ (and_first _ _ (both near x y u v (all_near q.piece q.rotation) one other)) in
-      omega (arith, ints, apart)
+  within_three x y u v one other = search (rules, int_le-true, and_first, (both near x y u v (all_near q.piece q.rotation) one other))
 
   -- and two columns if they lie in different rows
   pub within_two : (x y u v : ℕ) → Has x y → Has u v → y ≢ v → u ≤ x + 2
@@ -143,10 +141,4 @@ high_or_none height (cell ∷ cells) inside =
     ]
   where
     cases_lt : (a b : ℕ) → (a < b) ⊎ (b ≤ a)
-    cases_lt a b = elim (cases_order a b) [
-      | inl same ↦ inr (omega (arith, same))
-      | inr apart ↦ elim apart [
-        | inl below ↦ inl below
-        | inr above ↦ inr (omega (arith, above))
-      ]
-    ]
+    cases_lt a b = search (rules, cases_order)

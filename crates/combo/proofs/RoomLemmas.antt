@@ -1,5 +1,5 @@
 -- Between walls each placement of a run takes room for four cells.
-use Rattle.std.proofs.Common.{◌≡◌, ℕ, zero, suc, ◌+◌, ◌-◌, ◌*◌, ◌<◌, ◌≤◌, ◌⊎◌, Bool, true, false, not, ◌&&◌, pos, List, [], ◌∷◌, length, refl, sym, subst, ap, ◌∙◌, inl, inr, arith}
+use Rattle.std.proofs.Common.{◌≡◌, ℕ, zero, suc, ◌+◌, ◌-◌, ◌*◌, ◌<◌, ◌≤◌, ◌⊎◌, Bool, true, false, not, ◌&&◌, pos, List, [], ◌∷◌, length, refl, sym, ap, ◌∙◌, inl, inr, arith, rules}
 use Rattle.std.specs.Prelude.{IsTrue, nat_lt}
 use Rattle.std.specs.List.{list_all}
 use Rattle.std.proofs.Math.Path.{fun_ext}
@@ -30,20 +30,12 @@ use Rattle.combo.proofs.RoomRows.{cell_count-more, cells_left, columns_le, colum
 full_row : (G : Field) (n : ℕ) → 1 ≤ full_below G n → (y : ℕ) × (y < n) × (is_full G y ≡ true)
 unfolding full_below
 full_row G zero some = absurd (omega (arith, some))
-full_row G (suc n) some = elim (cases_Bool (is_full G n)) [
-  | inl full ↦ (n, omega arith, full)
-  | inr other ↦ let low = full_row G n (omega (arith, some, full_below-other G n other)) in (low.0, omega (arith, low.1), low.2)
-]
+full_row G (suc n) some = search (rules, (cases_Bool (is_full G n)), (full_row G n), (full_below-other G n))
 
 -- an element that fails
 failing : (p small : ℕ → Bool) (xs : List ℕ) → list_all p xs ≡ false → list_all small xs ≡ true → (x : ℕ) × (small x ≡ true) × (p x ≡ false)
 failing p small [] none all = cc
-failing p small (x ∷ xs) none all =
-    let parts = and_parts (small x) (list_all small xs) all in
-    elim (cases_Bool (p x)) [
-      | inl passes ↦ failing p small xs (subst (λ b. (b && list_all p xs) ≡ false) passes none) parts.1
-      | inr fails ↦ (x, parts.0, fails)
-    ]
+failing p small (x ∷ xs) none all = search (rules, (cases_Bool (p x)), (failing p small xs), (and_parts (small x) (list_all small xs) all))
 
 -- an empty cell of a row that isn't full
 empty_in_row : (F : Field) (y : ℕ) → is_full F y ≡ false → (x : ℕ) × (x < 10) × (F x y ≡ false)
@@ -66,10 +58,7 @@ module _ (F : Field) (q : Placement) (is_gap : ℕ → Bool) (height left right 
 
   added : (x y : ℕ) → F x y ≡ false → G x y ≡ true → Has q x y
   unfolding together
-  added x y empty filled = elim (or_cases (F x y) (is_among (cells_of q) (pos x, pos y)) filled) [
-    | inl was ↦ absurd (false≢true (sym empty ∙ was))
-    | inr has ↦ has
-  ]
+  added x y empty filled = search (rules, (or_cases (F x y) (is_among (cells_of q) (pos x, pos y)) filled), false≢true)
 
   open_cell : (x y : ℕ) → Has q x y → F x y ≡ false
   unfolding is_free_at is_open
@@ -77,10 +66,8 @@ module _ (F : Field) (q : Placement) (is_gap : ℕ → Bool) (height left right 
 
   -- a row that is full now lies below the height
   full_low : (y : ℕ) → height ≤ y → is_full G y ≡ false
-  full_low y above = false_from_ne_true _ (λ full.
-      let at_left = added left y (walls.empty_left y above) (cell_from_full G left y (omega (arith, walls.apart, walls.inside)) full) in
-      let at_right = added right y (walls.empty_right y above) (cell_from_full G right y (omega (arith, walls.inside)) full) in
-      omega (arith, within_three q left y right y at_left at_right, walls.apart))
+  full_low y above =
+      search (rules, false_from_ne_true, (added left y (walls.empty_left y above)), (cell_from_full G left y), (added right y (walls.empty_right y above)), (cell_from_full G right y), (within_three q left y right y))
 
   abbrev removed : ℕ
   removed = full_below G height
@@ -115,14 +102,7 @@ module _ (F : Field) (q : Placement) (is_gap : ℕ → Bool) (height left right 
 
   -- so it stays out of a column that is far from each gap
   stays_out : (column y : ℕ) → height ≤ y → ((x : ℕ) → is_gap x ≡ true → (x + 3 ≤ column) ⊎ (column + 3 ≤ x)) → Has q column y → ⊥
-  stays_out column y above far has =
-      let cell = in_gap in
-      let right_of = within_two q cell.x cell.y column y cell.has has (λ same. omega (arith, same, above, cell.below)) in
-      let left_of = within_two q column y cell.x cell.y has cell.has (λ same. omega (arith, same, above, cell.below)) in
-      elim (far cell.x cell.gap) [
-        | inl before ↦ omega (arith, before, right_of)
-        | inr after ↦ omega (arith, after, left_of)
-      ]
+  stays_out column y above far has = search (rules, (within_two q in_gap.x in_gap.y column y in_gap.has has), (within_two q column y in_gap.x in_gap.y has in_gap.has))
 
   abbrev after : Field
   after = locked F q
@@ -169,8 +149,7 @@ module _ (F : Field) (q : Placement) (is_gap : ℕ → Bool) (height left right 
   -- what is open after the placement was open before it
   was_open : (x : ℕ) → (is_gap x && not (after x lower)) ≡ true → (is_gap x && not (F x height)) ≡ true
   was_open x opened =
-      let parts = and_parts (is_gap x) (not (after x lower)) opened in
-      and_from _ _ parts.0 (not_from_false _ (false_from_ne_true _ (λ filled. false≢true (sym (not-true _ parts.1) ∙ same_at x (kept x height filled)))))
+      search (rules, and_from, (and_parts (is_gap x) (not (after x lower)) opened), not_from_false, false_from_ne_true, false≢true, not-true, (same_at x), (kept x height))
 
   -- a placement that crosses the height covers an open gap
   covers : Crossing q height → 1 ≤ height → open_gaps after is_gap lower + 1 ≤ open_gaps F is_gap height
@@ -184,30 +163,12 @@ module _ (F : Field) (q : Placement) (is_gap : ℕ → Bool) (height left right 
   one_more : cell_count F height + 1 ≤ cell_count G height
   unfolding with_cell
   one_more =
-      let cell = in_gap in
-      omega (arith, cell_count-with F cell.x cell.y height cell.column cell.below cell.empty, cell_count-more (with_cell F cell.x cell.y) G height (λ x y there. with_it x y there))
-    where
-      with_it : (x y : ℕ) → with_cell F in_gap.x in_gap.y x y ≡ true → G x y ≡ true
-      with_it x y there = elim (or_cases (F x y) _ there) [
-        | inl was ↦ kept x y was
-        | inr same ↦
-            let parts = and_parts _ _ same in
-            subst (λ c. G c y ≡ true) (sym (eqb-true _ _ parts.0)) (subst (λ r. G in_gap.x r ≡ true) (sym (eqb-true _ _ parts.1)) (placed in_gap.x in_gap.y in_gap.has))
-      ]
+      search (rules, (cell_count-with F in_gap.x in_gap.y height in_gap.column in_gap.below in_gap.empty), (cell_count-more (with_cell F in_gap.x in_gap.y) G height), or_cases, kept, eqb-true, and_parts, (placed in_gap.x in_gap.y in_gap.has))
 
   -- four cells more below the height, if none lies at or above it
   four_more : ((x y : ℕ) → height ≤ y → Has q x y → ⊥) → cell_count G height ≡ cell_count F height + 4
   unfolding locked rows_removed together
-  four_more none =
-      let size : height + (23 - height) ≡ 23 = omega (arith, walls.low) in
-      let same = same_above F G height (23 - height) (λ x y above. same_from_both _ _ (kept x y) (λ filled. old x y above filled)) in
-      omega (arith, same, ap (cell_count F) size, ap (cell_count G) size, adds_four_cells F q free, takes_ten_each G 23)
-    where
-      old : (x y : ℕ) → height ≤ y → G x y ≡ true → F x y ≡ true
-      old x y above filled = elim (or_cases (F x y) _ filled) [
-        | inl was ↦ was
-        | inr has ↦ absurd (none x y above has)
-      ]
+  four_more none = search (rules, (same_above F G height (23 - height)), same_from_both, kept, (adds_four_cells F q free), (takes_ten_each G 23), or_cases)
 
   -- the room that is left is less by four
   takes_four : 4 + cell_count F height + 3 * open_gaps after is_gap lower ≤ cell_count G height + 3 * open_gaps F is_gap height

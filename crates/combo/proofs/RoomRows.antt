@@ -1,6 +1,6 @@
 -- Rows and cells after full rows are removed below a height at and above which none is full.
 use Rattle.std.proofs.lemmas.Grind.{common_steps}
-use Rattle.std.proofs.Common.{◌≡◌, ℕ, zero, suc, ◌+◌, ◌*◌, ◌<◌, ◌≤◌, Bool, true, false, cond, count_by, get_or, List, [], ◌∷◌, length, subst, ap, inl, inr, arith, rules}
+use Rattle.std.proofs.Common.{◌≡◌, ℕ, zero, suc, ◌+◌, ◌*◌, ◌<◌, ◌≤◌, Bool, true, false, cond, count_by, get_or, List, [], ◌∷◌, length, ap, arith, rules}
 use Rattle.std.proofs.Math.Path.{fun_ext}
 use Rattle.std.proofs.lemmas.Bool.{cases_Bool, cases_eq, cases_order, false_from_ne_true}
 use Rattle.std.proofs.lemmas.List.Sums.{sum_by-cons}
@@ -67,23 +67,12 @@ pub record ComesFrom (G : Field) (height y : ℕ) : Type 0 where
 
 pub comes_from : (G : Field) (height y : ℕ) → y + full_below G height < height → ComesFrom G height y
 comes_from G zero y under = absurd (omega (arith, under))
-comes_from G (suc n) y under = elim (cases_Bool (is_full G n)) [
-  | inl full ↦ wider n (comes_from G n y (omega (arith, under, full_below-full G n full)))
-  | inr stays ↦ elim (cases_eq (y + full_below G n) n) [
-    | inl here ↦ record { row = n; below = omega arith; stays = stays; lowered = here }
-    | inr other ↦ wider n (comes_from G n y (omega (arith, under, other, full_below-other G n stays)))
-  ]
-]
-  where
-    wider : (n : ℕ) → ComesFrom G n y → ComesFrom G (suc n) y
-    wider n from = record { row = from.row; below = omega (arith, from.below); stays = from.stays; lowered = from.lowered }
+comes_from G (suc n) y under =
+    search (rules, (cases_Bool (is_full G n)), (comes_from G n y), (full_below-full G n), (cases_eq (y + full_below G n) n), (full_below-other G n))
 
 -- and has its cells
 pub same_row : (G : Field) (height y x : ℕ) → height ≤ 23 → (from : ComesFrom G height y) → without_full_rows G 23 x y ≡ G x from.row
-same_row G height y x within from = same_from_both _ _ (λ filled.
-    let was = lowered_from G 23 x y filled in
-    subst (λ row. G x row ≡ true) (one_row G y was.row from.row was.stays from.stays was.lowered from.lowered) was.filled
-    ) (λ filled. lowered_to G 23 x y (record { row = from.row; below = omega (arith, from.below, within); filled = filled; stays = from.stays; lowered = from.lowered }))
+same_row G height y x within from = search (rules, same_from_both, (one_row G y), (lowered_from G 23 x y), (lowered_to G 23 x y))
 
 -- a row that is left at or above the new height comes from one at or above the height
 pub comes_from_above : (G : Field) (height row y : ℕ) → height ≤ y + full_below G height → is_full G row ≡ false → y + full_below G row ≡ row → height ≤ row

@@ -1,5 +1,5 @@
 -- The rising list of the covered queues: those that a test passes.
-use Rattle.std.proofs.Common.{◌≡◌, ◌∙◌, ◌↔◌, ℕ, ◌-◌, Bool, true, false, ◌&&◌, ◌==◌, eqb-true, eq-eqb, List, [], ◌∷◌, length, Option, Some, None, refl, ap, arith, rules}
+use Rattle.std.proofs.Common.{◌≡◌, ◌↔◌, ℕ, ◌-◌, Bool, true, false, ◌&&◌, ◌==◌, eqb-true, eq-eqb, List, [], ◌∷◌, length, Option, Some, None, refl, arith, rules}
 use Rattle.std.specs.Prelude.{filter, slice_get}
 use Rattle.std.specs.List.{list_any, range_with_len}
 use Rattle.std.specs.Ordering.{nat_cmp}
@@ -78,25 +78,12 @@ module _ (problem : Problem) (fit : IsFit problem) (sequences : List (List Place
   unfolding covers answers all_queues
   covers-is number None there is = cc
   covers-is number (Some queue) there is =
-      let one = some_passes (λ sequence. clears sequence && permits problem.hold queue problem.held (pieces_of sequence)) sequences is in
-      let parts = and_parts (clears one.0) (permits problem.hold queue problem.held (pieces_of one.0)) one.2 in
-      record {
-        queue = queue;
-        there = there;
-        sequence = one.0;
-        given = one.1;
-        plays = (clears-decides one.0).0 parts.0;
-        permitted = (permits-decides problem.hold queue problem.held (pieces_of one.0)).0 parts.1;
-      }
+      search (rules, (some_passes (λ sequence. clears sequence && permits problem.hold queue problem.held (pieces_of sequence)) sequences is), clears-decides, and_parts, (permits-decides problem.hold queue problem.held))
 
   covers-from : (number : ℕ) → IsCovered problem sequences number → covers (slice_get all_queues number) ≡ true
   unfolding covers answers all_queues
   covers-from number is =
-      ap covers is.there
-      ∙ any_passes (λ sequence. clears sequence && permits problem.hold is.queue problem.held (pieces_of sequence)) sequences is.sequence is.given
-      (and_from (clears is.sequence) (permits problem.hold is.queue problem.held (pieces_of is.sequence))
-      ((clears-decides is.sequence).1 is.plays)
-      ((permits-decides problem.hold is.queue problem.held (pieces_of is.sequence)).1 is.permitted))
+      search (rules, (any_passes (λ sequence. clears sequence && permits problem.hold is.queue problem.held (pieces_of sequence)) sequences is.sequence is.given (and_from (clears is.sequence) (permits problem.hold is.queue problem.held (pieces_of is.sequence)) ((clears-decides is.sequence).1 is.plays) ((permits-decides problem.hold is.queue problem.held (pieces_of is.sequence)).1 is.permitted))))
 
   is_covered : ℕ → Bool
   is_covered number = covers (slice_get all_queues number)

@@ -1,5 +1,5 @@
 -- The queues between two that begin alike begin so too.
-use Rattle.std.proofs.Common.{◌≡◌, ℕ, zero, suc, ◌+◌, ◌<◌, ◌≤◌, List, [], ◌∷◌, length, take, get_or, Some, slice_get, refl, sym, ap, subst, ◌∙◌, inl, inr, arith}
+use Rattle.std.proofs.Common.{◌≡◌, ℕ, zero, suc, ◌+◌, ◌<◌, ◌≤◌, List, [], ◌∷◌, length, take, Some, slice_get, refl, sym, ap, ◌∙◌, inl, inr, arith, rules}
 use Rattle.std.specs.List.Sorted.{IsStrictlySortedBy}
 use Rattle.std.specs.declared.cmp.Ordering.TheVariants.{Less}
 use Rattle.std.proofs.lemmas.Bool.{cases_eq, cases_lt}
@@ -20,28 +20,11 @@ between (suc count) [] middle (z ∷ last) one two same = cc
 between (suc count) (x ∷ first) middle [] one two same = cc
 between (suc count) (x ∷ first) [] (z ∷ last) one two same = cc
 between (suc count) (x ∷ first) (y ∷ middle) (z ∷ last) one two same =
-    let head : z ≡ x = cc in
-    let tail : take count last ≡ take count first = cc in
-    let code : piece_code z ≡ piece_code x = ap piece_code head in
-    elim (then_less (piece_code x) (piece_code y) (queue_cmp first middle) one) [
-      | inl below ↦ elim (then_less (piece_code y) (piece_code z) (queue_cmp middle last) two) [
-        | inl under ↦ absurd (omega (arith, below, under, code))
-        | inr tied ↦ absurd (omega (arith, below, tied.0, code))
-      ]
-      | inr tied ↦ elim (then_less (piece_code y) (piece_code z) (queue_cmp middle last) two) [
-        | inl under ↦ absurd (omega (arith, tied.0, under, code))
-        | inr also ↦
-            ap (λ p. p ∷ take count middle) (sym (piece_code-injective x y tied.0))
-            ∙ ap (λ l. x ∷ l) (between count first middle last tied.1 also.1 tail)
-      ]
-    ]
+    search (rules, (then_less (piece_code x) (piece_code y) (queue_cmp first middle) one), (then_less (piece_code y) (piece_code z) (queue_cmp middle last) two), (piece_code-injective x y), (between count first middle last))
 
 rises : (queues : List (List Piece)) (i j : ℕ) (a b : List Piece) → IsStrictlySortedBy queue_cmp queues → i < j → slice_get queues i ≡ Some a → slice_get queues j ≡ Some b → queue_cmp a b ≡ Less
 rises queues i j a b rising before at there =
-    let less = Less-from_sorted queue_cmp queues i j [] rising before (slice_get_within queues j b there) in
-    let first : get_or queues i [] ≡ a = get_or_from_slice_get queues i a [] at in
-    let second : get_or queues j [] ≡ b = get_or_from_slice_get queues j b [] there in
-    subst (λ y. queue_cmp a y ≡ Less) second (subst (λ x. queue_cmp x (get_or queues j []) ≡ Less) first less)
+    search (rules, (get_or_from_slice_get queues i a []), (get_or_from_slice_get queues j b [] there), (Less-from_sorted queue_cmp queues i j [] rising before (slice_get_within queues j b there)))
 
 -- all up to one that begins alike, and no further
 pub record BeginAlike (queues : List (List Piece)) (count : ℕ) (queue : List Piece) (number last end step : ℕ) : Type 0 where
@@ -53,19 +36,7 @@ pub record BeginAlike (queues : List (List Piece)) (count : ℕ) (queue : List P
 
 module _ (queues : List (List Piece)) (count : ℕ) (queue : List Piece) (number : ℕ) (rising : IsStrictlySortedBy queue_cmp queues) (there : slice_get queues number ≡ Some queue) where
   pub alike-starts : BeginAlike queues count queue number number (length queues) 1
-  alike-starts = record {
-    after = omega arith;
-    before = slice_get_within queues number queue there;
-    within = omega arith;
-    some = omega arith;
-    same = record {
-      each = λ k other from to at.
-          let is : k ≡ number = omega (arith, from, to) in
-          let same : Some other ≡ Some queue = sym at ∙ ap (slice_get queues) is ∙ there in
-          let alike : other ≡ queue = cc in
-          record { same = ap (take count) alike };
-    };
-  }
+  alike-starts = search (rules, (slice_get_within queues number queue there), (slice_get queues))
 
   -- one more that begins alike
   pub alike-goes_on : (last end step next more : ℕ) (last_queue : List Piece) → BeginAlike queues count queue number last end step → last < next → next < end → 1 ≤ more
@@ -96,10 +67,4 @@ module _ (queues : List (List Piece)) (count : ℕ) (queue : List Piece) (number
   }
 
   pub alike-stops : (last end step next : ℕ) → BeginAlike queues count queue number last end step → last < next → next < end → BeginAlike queues count queue number last next step
-  alike-stops last end step next so_far later before = record {
-    after = so_far.after;
-    before = later;
-    within = omega (arith, so_far.within, before);
-    some = so_far.some;
-    same = so_far.same;
-  }
+  alike-stops last end step next so_far later before = search rules

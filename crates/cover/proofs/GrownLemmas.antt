@@ -1,5 +1,5 @@
 -- A tree with one node more below another one.
-use Rattle.std.proofs.Common.{◌≡◌, ℕ, ◌+◌, ◌-◌, ◌<◌, ◌≤◌, true, false, ◌&&◌, nat_lt, get_or, List, [], ◌∷◌, ◌++◌, length, Some, slice_get, set, refl, sym, ap, subst, ◌∙◌, inl, inr, arith, length-append, rules}
+use Rattle.std.proofs.Common.{◌≡◌, ℕ, ◌+◌, ◌<◌, ◌≤◌, true, false, nat_lt, get_or, List, [], ◌∷◌, ◌++◌, length, Some, slice_get, set, refl, sym, ap, subst, ◌∙◌, inl, inr, arith, length-append, rules}
 use Rattle.std.proofs.lemmas.Bool.{cases_eq, cases_lt, eq-eqb, ne_eqb, and_right, or_right}
 use Rattle.std.proofs.lemmas.List.{length-set}
 use Rattle.std.proofs.lemmas.Option.{slice_get_read, slice_get_past}
@@ -43,8 +43,7 @@ first-tree blank is = search rules
 pub first-spells : (blank : Node) (kinds : List Piece) → IsBlank blank → spells (blank ∷ []) 0 kinds ≡ false
 unfolding spells
 first-spells blank [] is = end-at (blank ∷ []) 0 blank refl ∙ is.open_end
-first-spells blank (kind ∷ kinds) is =
-    ap (λ c. nat_lt 0 c && spells (blank ∷ []) c kinds) (child-at (blank ∷ []) 0 blank kind refl ∙ is.none kind)
+first-spells blank (kind ∷ kinds) is = search (rules, (nat_lt 0), (child-at (blank ∷ []) 0 blank kind refl), (is.none kind))
 
 -- one node more, below another one for one kind
 pub record IsGrown (old : List Node) (at : ℕ) (kind : Piece) (new : List Node) : Type 0 where
@@ -67,26 +66,12 @@ module _ (old : List Node) (at : ℕ) (kind : Piece) (blank first linked : Node)
   at-other other apart = get-others (old ++ blank ∷ []) at other linked apart
 
   child-elsewhere : (other : ℕ) (second : Piece) → (other ≡ at → ⊥) → child new other second ≡ child old other second
-  child-elsewhere other second apart = elim (cases_lt other (length old)) [
-    | inl before ↦ same-child old new other second (at-other other apart ∙ get-before old other blank before)
-    | inr past ↦ elim (cases_eq other (length old)) [
-      | inl last ↦
-          child-at new other blank second (at-other other apart ∙ get-pushed old other blank last) ∙ is_blank.none second
-          ∙ sym (child-past old other second past)
-      | inr beyond ↦
-          child-past new other second (omega (arith, long, past, beyond)) ∙ sym (child-past old other second past)
-    ]
-  ]
+  child-elsewhere other second apart =
+      search (rules, (cases_lt other (length old)), (same-child old new other second), (at-other other apart), (get-before old other blank), (cases_eq other (length old)), (child-at new other blank second), (get-pushed old other blank), (child-past old other second), (child-past new other second), long)
 
   end-elsewhere : (other : ℕ) → (other ≡ at → ⊥) → has_end new other ≡ has_end old other
-  end-elsewhere other apart = elim (cases_lt other (length old)) [
-    | inl before ↦ same-end old new other (at-other other apart ∙ get-before old other blank before)
-    | inr past ↦ elim (cases_eq other (length old)) [
-      | inl last ↦
-          end-at new other blank (at-other other apart ∙ get-pushed old other blank last) ∙ is_blank.open_end ∙ sym (end-past old other past)
-      | inr beyond ↦ end-past new other (omega (arith, long, past, beyond)) ∙ sym (end-past old other past)
-    ]
-  ]
+  end-elsewhere other apart =
+      search (rules, (cases_lt other (length old)), (same-end old new other), (at-other other apart), (get-before old other blank), (cases_eq other (length old)), (end-at new other blank), (get-pushed old other blank), (end-past old other), (end-past new other), long)
 
   child-others : (other : ℕ) (second : Piece) → (other ≡ at → piece_code second ≡ piece_code kind → ⊥) → child new other second ≡ child old other second
   child-others other second apart = elim (cases_eq other at) [
@@ -97,10 +82,7 @@ module _ (old : List Node) (at : ℕ) (kind : Piece) (blank first linked : Node)
   ]
 
   end-others : (other : ℕ) → has_end new other ≡ has_end old other
-  end-others other = elim (cases_eq other at) [
-    | inl same ↦ subst (λ n. has_end new n ≡ has_end old n) (sym same) (end-at new at linked at-linked ∙ link.same_end ∙ sym (end-at old at first there))
-    | inr elsewhere ↦ end-elsewhere other elsewhere
-  ]
+  end-others other = search (rules, (cases_eq other), (end-at new), at-linked, (end-at old), (end-elsewhere other))
 
   pub grown : IsGrown old at kind new
   grown = record {
@@ -127,101 +109,40 @@ module _ (old new : List Node) (at : ℕ) (kind : Piece) (tree : IsTree old) (wi
     known : child new other second ≡ child old other second → Child other second
 
   child_is : (other : ℕ) (second : Piece) → Child other second
-  child_is other second = elim (cases_eq other at) [
-    | inl same ↦ elim (cases_eq (piece_code second) (piece_code kind)) [
-      | inl code ↦
-          let is : second ≡ kind = piece_code-injective second kind code in
-          fresh same is (ap (λ n. child new n second) same ∙ ap (λ k. child new at k) is ∙ grown.there)
-      | inr differs ↦ known (grown.others other second (λ _ code. differs code))
-    ]
-    | inr elsewhere ↦ known (grown.others other second (λ same _. elsewhere same))
-  ]
+  child_is other second = search (rules, (cases_eq other), (cases_eq (piece_code second) (piece_code kind)), (piece_code-injective second kind))
 
   later : (other : ℕ) (second : Piece) → 0 < child new other second → other < child new other second
-  later other second some = elim (child_is other second) [
-    | fresh same is value ↦ omega (arith, same, value, within)
-    | known value ↦ let before : 0 < child old other second = omega (arith, value, some) in omega (arith, value, tree.later other second before)
-  ]
+  later other second some = search (rules, (child_is other second))
 
   below : (other : ℕ) (second : Piece) → child new other second < length new
-  below other second = elim (child_is other second) [
-    | fresh same is value ↦ omega (arith, value, grown.long)
-    | known value ↦ omega (arith, value, tree.within other second, grown.long)
-  ]
+  below other second = search (rules, (child_is other second))
 
   one_above : (other third : ℕ) (second fourth : Piece) → 0 < child new other second → child new other second ≡ child new third fourth → other ≡ third
-  one_above other third second fourth some same = elim (child_is other second) [
-    | fresh here is value ↦ elim (child_is third fourth) [
-      | fresh there also given ↦ here ∙ sym there
-      | known given ↦ absurd (omega (arith, value, given, same, tree.within third fourth))
-    ]
-    | known value ↦ elim (child_is third fourth) [
-      | fresh there also given ↦ absurd (omega (arith, value, given, same, tree.within other second))
-      | known given ↦
-          let before : 0 < child old other second = omega (arith, value, some) in
-          tree.one_above other third second fourth before (sym value ∙ same ∙ given)
-    ]
-  ]
+  one_above other third second fourth some same = search (rules, (child_is other second), (child_is third fourth))
 
   one_kind : (other third : ℕ) (second fourth : Piece) → 0 < child new other second → child new other second ≡ child new third fourth → piece_code second ≡ piece_code fourth
-  one_kind other third second fourth some same = elim (child_is other second) [
-    | fresh here is value ↦ elim (child_is third fourth) [
-      | fresh there also given ↦ ap piece_code (is ∙ sym also)
-      | known given ↦ absurd (omega (arith, value, given, same, tree.within third fourth))
-    ]
-    | known value ↦ elim (child_is third fourth) [
-      | fresh there also given ↦ absurd (omega (arith, value, given, same, tree.within other second))
-      | known given ↦
-          let before : 0 < child old other second = omega (arith, value, some) in
-          tree.one_kind other third second fourth before (sym value ∙ same ∙ given)
-    ]
-  ]
+  one_kind other third second fourth some same = search (rules, (child_is other second), (child_is third fourth))
 
   pub grown-tree : IsTree new
-  grown-tree = record {
-    rooted = omega (arith, grown.long);
-    later = later;
-    within = below;
-    one_above = one_above;
-    one_kind = one_kind;
-  }
+  grown-tree = search (rules, later, below, one_above, one_kind)
 
   -- nothing is spelled from the new node
   fresh-spells : (kinds : List Piece) → spells new (length old) kinds ≡ false
   unfolding spells
   fresh-spells [] = grown.ends (length old) ∙ end-past old (length old) (omega arith)
-  fresh-spells (k ∷ ks) =
-      let none_below : child new (length old) k ≡ 0 =
-      grown.others (length old) k (λ same _. omega (arith, same, within)) ∙ child-past old (length old) k (omega arith) in
-      ap (λ c. nat_lt 0 c && spells new c ks) none_below
+  fresh-spells (k ∷ ks) = search (rules, (child-past old (length old) k), (nat_lt 0))
 
   same-spells : (other : ℕ) (kinds : List Piece) → other < length old → spells new other kinds ≡ spells old other kinds
   unfolding spells
   same-spells other [] inside = grown.ends other
-  same-spells other (k ∷ ks) inside = elim (child_is other k) [
-    | fresh here is value ↦
-        let before : child old other k ≡ 0 = ap (λ n. child old n k) here ∙ ap (λ p. child old at p) is ∙ none in
-        ap (λ c. nat_lt 0 c && spells new c ks) value ∙ and_right (nat_lt 0 (length old)) _ (fresh-spells ks)
-        ∙ sym (ap (λ c. nat_lt 0 c && spells old c ks) before)
-    | known value ↦
-        ap (λ c. nat_lt 0 c && spells new c ks) value
-        ∙ ap (λ b. nat_lt 0 (child old other k) && b) (same-spells (child old other k) ks (tree.within other k))
-  ]
+  same-spells other (k ∷ ks) inside =
+      search (rules, (child_is other k), (nat_lt 0), (and_right (nat_lt 0 (length old))), (fresh-spells ks), (nat_lt 0 (child old other k)), (same-spells (child old other k) ks (tree.within other k)))
 
   same-children : (other : ℕ) (second : Piece) → 0 < child old other second → child new other second ≡ child old other second
-  same-children other second some = elim (child_is other second) [
-    | fresh here is value ↦
-        let before : child old other second ≡ 0 = ap (λ n. child old n second) here ∙ ap (λ p. child old at p) is ∙ none in
-        absurd (omega (arith, before, some))
-    | known value ↦ value
-  ]
+  same-children other second some = search (rules, (child_is other second))
 
   pub grown-grows : HasGrown old new
-  grown-grows = record {
-    longer = omega (arith, grown.long);
-    kept = same-children;
-    spelled = same-spells;
-  }
+  grown-grows = search (rules, same-children, same-spells)
 
 pub grows-same : (old new : List Node) → new ≡ old → HasGrown old new
 grows-same old new same = subst (HasGrown old) (sym same) (record { longer = omega arith; kept = λ at kind some. refl; spelled = λ at kinds within. refl })

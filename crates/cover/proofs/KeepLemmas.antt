@@ -1,5 +1,5 @@
 -- A tree has the kept lists after one more is kept.
-use Rattle.std.proofs.Common.{◌≡◌, ℕ, true, List, reverse, sym, subst, ◌∙◌, inl, inr}
+use Rattle.std.proofs.Common.{◌≡◌, ℕ, List, reverse, ◌∙◌, rules}
 use Rattle.lane_board.proofs.CallerLemmas.{same_from_both}
 use Rattle.srs.specs.declared.piece.Piece.{Piece}
 use Rattle.cover.specs.declared.node.Node.{Node}
@@ -18,14 +18,5 @@ grown-of old new lists tree grows of = record { each = λ kinds. grows.spelled 0
 
 pub kept-of : (old new : List Node) (lists kept : List (List Piece)) (kinds : List Piece) (node : ℕ) → IsTree old → LeadsTo old (reverse kinds) node → Ends old new node → Keeps lists kept kinds
     → IsTreeOf old lists → IsTreeOf new kept
-kept-of old new lists kept kinds node tree leads ends keeps of = record {
-  each = λ other. same_from_both _ _
-      (λ spelled. elim (spells-only old new kinds node tree leads ends other spelled) [
-        | inl before ↦ has-old lists kept kinds other keeps (sym (of.each other) ∙ before)
-        | inr is ↦ subst (λ k. has_kinds kept k ≡ true) (sym is) (has-item lists kept kinds keeps)
-      ])
-      (λ has. elim (has-only lists kept kinds other keeps has) [
-        | inl before ↦ spells-still old new kinds node tree leads ends 0 other (of.each other ∙ before)
-        | inr is ↦ subst (λ k. spells new 0 k ≡ true) (sym is) (spells-new old new kinds node tree leads ends)
-      ]);
-}
+kept-of old new lists kept kinds node tree leads ends keeps of =
+    search (rules, same_from_both, (spells-only old new kinds node tree leads ends), (has-old lists kept kinds), of.each, (has-item lists kept kinds keeps), (has-only lists kept kinds), (spells-still old new kinds node tree leads ends 0), (spells-new old new kinds node tree leads ends))

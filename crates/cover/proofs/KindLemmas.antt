@@ -25,9 +25,7 @@ same_kinds-true [] [] same = refl
 same_kinds-true [] (other ∷ others) same = cc
 same_kinds-true (kind ∷ kinds) [] same = cc
 same_kinds-true (kind ∷ kinds) (other ∷ others) same =
-    let parts = and_parts (piece_code kind == piece_code other) _ same in
-    let first = piece_code-injective kind other (eqb-true (piece_code kind) (piece_code other) parts.0) in
-    ap (λ k. k ∷ kinds) first ∙ ap (λ ks. other ∷ ks) (same_kinds-true kinds others parts.1)
+    search (rules, (piece_code-injective kind other), (eqb-true (piece_code kind) (piece_code other)), (and_parts (piece_code kind == piece_code other)), (same_kinds-true kinds others))
 
 pub same_kinds-itself : (kinds : List Piece) → same_kinds kinds kinds ≡ true
 unfolding same_kinds

@@ -1,6 +1,6 @@
 -- A list is taken by its first piece, which is the first or the second at hand.
 use Rattle.std.proofs.lemmas.Grind.{common_steps}
-use Rattle.std.proofs.Common.{◌≡◌, ◌⊎◌, ℕ, ◌+◌, ◌<◌, ◌≤◌, true, false, List, [], ◌∷◌, sym, ap, subst, ◌∙◌, inl, inr, arith, length, max, take, rules}
+use Rattle.std.proofs.Common.{◌≡◌, ◌⊎◌, ℕ, ◌+◌, ◌<◌, ◌≤◌, true, false, List, [], ◌∷◌, inl, inr, arith, length, max, take, rules}
 use Rattle.std.proofs.lemmas.Bool.{and_from, lt-ltb}
 use Rattle.srs.specs.declared.piece.Piece.{Piece}
 use Rattle.hold_queue.specs.declared.hand.Hand.{Hand}
@@ -31,11 +31,7 @@ unfolding spells
 here-spells nodes at spelled = spelled
 
 takes-one : (nodes : List Node) (hold : Hold) (at : ℕ) (piece : Piece) (pieces rest : List Piece) → Take hold pieces piece rest → TakesBelow nodes hold at piece rest → TakesOne nodes hold at pieces
-takes-one nodes hold at piece pieces rest taken below = record {
-  kinds = piece ∷ below.below.kinds;
-  spelled = spells-below nodes at piece below.below.kinds below.some below.below.spelled;
-  taken = (rest, taken, below.below.taken);
-}
+takes-one nodes hold at piece pieces rest taken below = search (rules, (spells-below nodes))
 
 -- how a list is taken, by its first piece
 abbrev Begins : List Node → Hold → ℕ → List Piece → Type 0
@@ -62,68 +58,38 @@ whole-front n queue other within same = grind (arith, common_steps)
 module _ (nodes : List Node) (hold : Hold) (at : ℕ) (queue : List Piece) (hand : Hand) (within : hand.drawn ≤ length queue) (open_end : has_end nodes at ≡ false) where
   -- all of the queue is seen
   misses-whole : (seen : ℕ) → seen ≡ length queue + 1 → (TakesOne nodes hold at (pieces_at queue hand) → ⊥) → Misses nodes hold at queue hand seen
-  misses-whole seen all none = record {
-    later = omega (arith, within, all);
-    few = omega (arith, all);
-    none = λ other front one.
-        none (subst (λ l. TakesOne nodes hold at (pieces_at l hand)) (sym (whole-front seen queue other (omega (arith, all)) front.same)) one);
-  }
+  misses-whole seen all none = search (rules, (whole-front seen queue))
 
   pub misses-none : (seen : ℕ) → seen ≡ length queue + 1 → pieces_at queue hand ≡ [] → Misses nodes hold at queue hand seen
-  misses-none seen all none = misses-whole seen all (λ one. elim (taken-begins nodes hold at (pieces_at queue hand) one.kinds open_end one.spelled one.taken) [
-    | inl first ↦ let both : [] ≡ first.0 ∷ first.1 = sym none ∙ first.2 in cc
-    | inr second ↦ let both : [] ≡ second.3.0 ∷ second.0 ∷ second.3.1 = sym none ∙ second.3.2 in cc
-  ])
+  misses-none seen all none = search (rules, (misses-whole seen all), (taken-begins nodes hold))
 
   module _ (first : Taken) (is : IsTakenBy TakesFirst queue hand first) where
     pub found-first : TakesBelow nodes hold at first.piece (pieces_at queue first.rest) → TakesOne nodes hold at (pieces_at queue hand)
     found-first below =
-        takes-one nodes hold at first.piece (pieces_at queue hand) (pieces_at queue first.rest)
-        (take-of_first hold (pieces_at queue hand) first.piece (pieces_at queue first.rest) (is.each queue (same-itself first.rest.drawn queue))) below
+        search (rules, (takes-one nodes hold), (take-of_first hold (pieces_at queue hand) first.piece (pieces_at queue first.rest) (is.each queue (same-itself first.rest.drawn queue))))
 
     -- not by the first piece
     not-first : (other : List Piece) (piece : Piece) (rest : List Piece) → HasSameFront first.rest.drawn queue other → (TakesBelow nodes hold at first.piece (pieces_at other first.rest) → ⊥)
         → TakesFirst (pieces_at other hand) piece rest → TakesBelow nodes hold at piece rest → ⊥
-    not-first other piece rest front none found below =
-        let same : piece ∷ rest ≡ first.piece ∷ pieces_at other first.rest = sym found ∙ is.each other front in
-        let kind : piece ≡ first.piece = cc in
-        let others : rest ≡ pieces_at other first.rest = cc in
-        none (subst (TakesBelow nodes hold at first.piece) others (subst (λ p. TakesBelow nodes hold at p rest) kind below))
+    not-first other piece rest front none found below = search rules
 
     module _ (seen : ℕ) (missed : MissesBelow nodes hold at first.piece queue first.rest seen) where
       pub misses-avoided : hold ≡ Avoided → Misses nodes hold at queue hand seen
-      misses-avoided avoided = record {
-        later = omega (arith, is.later, missed.later);
-        few = missed.few;
-        none = λ other front one. elim (taken-begins nodes hold at (pieces_at other hand) one.kinds open_end one.spelled one.taken) [
-          | inl found ↦ not-first other found.0 found.1 (same-shorter first.rest.drawn seen queue other missed.later front) (missed.none other front) found.2 found.3
-          | inr found ↦ let both : Avoided ≡ Allowed = sym avoided ∙ found.2 in cc
-        ];
-      }
+      misses-avoided avoided = search (rules, (taken-begins nodes hold), not-first, (same-shorter first.rest.drawn seen queue))
 
       pub misses-one : (all : ℕ) → all ≡ length queue + 1 → length (pieces_at queue hand) ≤ 1 → Misses nodes hold at queue hand all
-      misses-one all whole few = misses-whole all whole (λ one. elim (taken-begins nodes hold at (pieces_at queue hand) one.kinds open_end one.spelled one.taken) [
-        | inl found ↦ not-first queue found.0 found.1 (same-itself first.rest.drawn queue) (missed.none queue (same-itself seen queue)) found.2 found.3
-        | inr found ↦ omega (arith, few, ap length found.3.2)
-      ])
+      misses-one all whole few =
+          search (rules, (misses-whole all whole), (taken-begins nodes hold), (not-first queue), (same-itself first.rest.drawn queue), (same-itself seen queue))
 
       module _ (second : Taken) (next : IsTakenBy TakesSecond queue hand second) where
         pub found-second : hold ≡ Allowed → TakesBelow nodes hold at second.piece (pieces_at queue second.rest) → TakesOne nodes hold at (pieces_at queue hand)
         found-second allowed below =
-            takes-one nodes hold at second.piece (pieces_at queue hand) (pieces_at queue second.rest)
-            (take-of_second hold (pieces_at queue hand) second.piece (pieces_at queue second.rest) allowed (next.each queue (same-itself second.rest.drawn queue))) below
+            search (rules, (takes-one nodes hold), (take-of_second hold (pieces_at queue hand) second.piece (pieces_at queue second.rest) allowed (next.each queue (same-itself second.rest.drawn queue))))
 
         -- not by the second piece
         not-second : (other : List Piece) (piece : Piece) (rest : List Piece) → HasSameFront second.rest.drawn queue other → (TakesBelow nodes hold at second.piece (pieces_at other second.rest) → ⊥)
             → TakesSecond (pieces_at other hand) piece rest → TakesBelow nodes hold at piece rest → ⊥
-        not-second other piece rest front none found below =
-            let is : TakesSecond (pieces_at other hand) second.piece (pieces_at other second.rest) = next.each other front in
-            let same : found.0 ∷ piece ∷ found.1 ≡ is.0 ∷ second.piece ∷ is.1 = sym found.2 ∙ is.2 in
-            let kind : piece ≡ second.piece = cc in
-            let before : found.0 ≡ is.0 = cc in
-            let later : found.1 ≡ is.1 = cc in
-            let others : rest ≡ pieces_at other second.rest = found.3 ∙ ap (λ p. p ∷ found.1) before ∙ ap (λ l. is.0 ∷ l) later ∙ sym is.3 in
-            none (subst (TakesBelow nodes hold at second.piece) others (subst (λ p. TakesBelow nodes hold at p rest) kind below))
+        not-second other piece rest front none found below = search rules
 
         pub misses-two : (also all : ℕ) → MissesBelow nodes hold at second.piece queue second.rest also → all ≡ max seen also → Misses nodes hold at queue hand all
         misses-two also all missed_too most = record {

@@ -29,13 +29,7 @@ module _ (problem : Problem) (lists : List (List Piece)) (nodes : List Node) (ha
     (at_start : (queue : List Piece) → pieces_at queue hand ≡ at_hand problem.hold problem.held queue) where
   taken-permitted : (number : ℕ) (queue : List Piece) → slice_get (queues (elements_of problem.pattern)) number ≡ Some queue
       → TakesOne nodes problem.hold 0 (pieces_at queue hand) → IsPermitted problem lists number
-  taken-permitted number queue there one = record {
-    queue = queue;
-    there = there;
-    kinds = one.kinds;
-    listed = has_kinds-contained lists one.kinds (sym (listed one.kinds) ∙ one.spelled);
-    permitted = permits-of_takes problem.hold queue problem.held one.kinds (subst (λ l. Takes problem.hold l one.kinds) (at_start queue) one.taken);
-  }
+  taken-permitted number queue there one = search (rules, has_kinds-contained, permits-of_takes)
 
   permitted-taken : (number : ℕ) → (permitted : IsPermitted problem lists number) → TakesOne nodes problem.hold 0 (pieces_at permitted.queue hand)
   permitted-taken number permitted = record {

@@ -1,5 +1,5 @@
 -- A sequence clears a field where its first placement is a place there and the others clear what is left.
-use Rattle.std.proofs.Common.{◌≡◌, ℕ, ◌+◌, ◌-◌, ◌≤◌, true, List, [], ◌∷◌, sym, subst, arith}
+use Rattle.std.proofs.Common.{◌≡◌, ℕ, ◌+◌, ◌-◌, ◌≤◌, true, List, [], ◌∷◌, sym, subst, arith, rules}
 use Rattle.srs.specs.declared.placement.Placement.{Placement}
 use Rattle.srs.specs.Kick.{Table}
 use Rattle.lane_board.specs.Field.{Field}
@@ -48,8 +48,7 @@ module _ (table : Table) (mode : DropMode) (start F : Field) (height rows : ℕ)
 module _ (table : Table) (mode : DropMode) (start F : Field) (height rows : ℕ) (whole rest : List Placement) (before now done : ℕ)
     (so_far : IsPlayed table mode start height whole F rows rest before now done) (all : rest ≡ []) where
   pub played-full : rows ≡ 0 → Plays table mode start height whole
-  played-full none =
-      so_far.comes (subst (Plays table mode F rows) (sym all) (none, λ x y. so_far.low.none x y (omega (arith, none))))
+  played-full none = search rules
 
   pub played-left : (rows ≡ 0 → ⊥) → Plays table mode start height whole → ⊥
   played-left some plays = some (subst (Plays table mode F rows) all (so_far.goes plays)).0

@@ -1,6 +1,6 @@
 -- Lists that lead to nodes, and a list that ends at one node more.
 use Rattle.std.proofs.lemmas.Grind.{common_steps}
-use Rattle.std.proofs.Common.{◌≡◌, ◌⊎◌, ℕ, ◌<◌, true, ◌&&◌, ◌==◌, nat_lt, List, [], ◌∷◌, ◌++◌, length, reverse, refl, sym, ap, subst, ◌∙◌, inl, inr, arith, append_assoc, append-nil, rules}
+use Rattle.std.proofs.Common.{◌≡◌, ◌⊎◌, ℕ, ◌<◌, true, ◌==◌, nat_lt, List, [], ◌∷◌, ◌++◌, length, reverse, refl, sym, subst, ◌∙◌, arith, append_assoc, append-nil, rules}
 use Rattle.std.proofs.lemmas.Bool.{ltb-true, lt-ltb, eqb-true, and_parts, and_from, eq-eqb, or_cases, or_left, or_right}
 use Rattle.std.proofs.lemmas.List.{reverse-append, reverse-reverse}
 use Rattle.srs.specs.declared.piece.Piece.{Piece}
@@ -27,12 +27,7 @@ leads-one nodes [] [] node tree leads also = refl
 leads-one nodes [] (other ∷ others) node tree leads also = absurd (omega (arith, leads, also.3))
 leads-one nodes (kind ∷ kinds) [] node tree leads also = absurd (omega (arith, leads.3, also))
 leads-one nodes (kind ∷ kinds) (other ∷ others) node tree leads also =
-    let some : 0 < child nodes leads.0 kind = omega (arith, leads.2, leads.3) in
-    let same : child nodes leads.0 kind ≡ child nodes also.0 other = leads.2 ∙ sym also.2 in
-    let above = tree.one_above leads.0 also.0 kind other some same in
-    let code = tree.one_kind leads.0 also.0 kind other some same in
-    let rest = leads-one nodes kinds others also.0 tree (subst (LeadsTo nodes kinds) above leads.1) also.1 in
-    ap (λ k. k ∷ kinds) (piece_code-injective kind other code) ∙ ap (λ ks. other ∷ ks) rest
+    search (rules, (leads-one nodes kinds others also.0 tree), (tree.one_above leads.0 also.0 kind other), (piece_code-injective kind other), (tree.one_kind leads.0 also.0 kind other))
 
 -- the kinds on the way to a node, the last one first, before those that follow
 onto : List Piece → List Piece → List Piece
@@ -56,17 +51,13 @@ module _ (old new : List Node) (kinds : List Piece) (node : ℕ) (tree : IsTree 
   pub spells-still : (at : ℕ) (ks : List Piece) → spells old at ks ≡ true → spells new at ks ≡ true
   unfolding spells
   spells-still at [] spelled = ends.ends at ∙ or_left (has_end old at) (at == node) spelled
-  spells-still at (k ∷ ks) spelled =
-      let parts = and_parts (nat_lt 0 (child old at k)) _ spelled in
-      ap (λ c. nat_lt 0 c && spells new c ks) (ends.same at k) ∙ and_from _ _ parts.0 (spells-still (child old at k) ks parts.1)
+  spells-still at (k ∷ ks) spelled = search (rules, (nat_lt 0), and_from, (and_parts (nat_lt 0 (child old at k))), (spells-still (child old at k) ks))
 
   -- what is spelled from a node is spelled from the first one, after the way to it
   spells-onto : (way : List Piece) (at : ℕ) (ks : List Piece) → LeadsTo old way at → spells new at ks ≡ true → spells new 0 (onto way ks) ≡ true
   unfolding spells onto
   spells-onto [] at ks way_to spelled = subst (λ n. spells new n ks ≡ true) way_to spelled
-  spells-onto (k ∷ way) at ks way_to spelled =
-      spells-onto way way_to.0 (k ∷ ks) way_to.1
-      (ap (λ c. nat_lt 0 c && spells new c ks) (ends.same way_to.0 k ∙ way_to.2) ∙ and_from _ _ (lt-ltb 0 at way_to.3) spelled)
+  spells-onto (k ∷ way) at ks way_to spelled = search (rules, (spells-onto way way_to.0 (k ∷ ks) way_to.1), (nat_lt 0), and_from, (lt-ltb 0))
 
   pub spells-new : spells new 0 kinds ≡ true
   unfolding spells
@@ -77,20 +68,10 @@ module _ (old new : List Node) (kinds : List Piece) (node : ℕ) (tree : IsTree 
   -- and nothing else
   spells-more : (way : List Piece) (at : ℕ) (ks : List Piece) → LeadsTo old way at → spells new at ks ≡ true → (spells old at ks ≡ true) ⊎ (onto way ks ≡ kinds)
   unfolding spells onto
-  spells-more way at [] way_to spelled = elim (or_cases (has_end old at) (at == node) (sym (ends.ends at) ∙ spelled)) [
-    | inl before ↦ inl before
-    | inr here ↦
-        let same : at ≡ node = eqb-true at node here in
-        inr (ap (λ w. onto w []) (leads-one old way (reverse kinds) node tree (subst (LeadsTo old way) same way_to) leads) ∙ onto-none kinds)
-  ]
+  spells-more way at [] way_to spelled =
+      search (rules, (or_cases (has_end old at) (at == node) (sym (ends.ends at) ∙ spelled)), eqb-true, (leads-one old way (reverse kinds) node tree), (onto-none kinds))
   spells-more way at (k ∷ ks) way_to spelled =
-      let parts = and_parts (nat_lt 0 (child new at k)) _ spelled in
-      let some : 0 < child old at k = omega (arith, ltb-true 0 (child new at k) parts.0, ends.same at k) in
-      let there = subst (λ c. spells new c ks ≡ true) (ends.same at k) parts.1 in
-      elim (spells-more (k ∷ way) (child old at k) ks (at, way_to, refl, some) there) [
-        | inl before ↦ inl (and_from _ _ (lt-ltb 0 (child old at k) some) before)
-        | inr is ↦ inr is
-      ]
+      search (rules, (ltb-true 0 (child new at k)), (and_parts (nat_lt 0 (child new at k))), (spells-more (k ∷ way) (child old at k) ks), and_from, (lt-ltb 0 (child old at k)))
 
   pub spells-only : (ks : List Piece) → spells new 0 ks ≡ true → (spells old 0 ks ≡ true) ⊎ (ks ≡ kinds)
   unfolding onto

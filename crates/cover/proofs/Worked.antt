@@ -1,6 +1,6 @@
 -- The definitions, tried on a straight piece that clears the field and on two queues: the one that can hold back its first
 -- piece is covered, and the other one isn't.
-use Rattle.std.proofs.Common.{◌≡◌, ◌∙◌, ℕ, zero, suc, List, [], ◌∷◌, Option, Some, None, refl, sym, ap, subst, arith, rules}
+use Rattle.std.proofs.Common.{◌≡◌, ℕ, zero, suc, List, [], ◌∷◌, Option, Some, None, refl, sym, ap, subst, arith, rules}
 use Rattle.std.specs.Prelude.{Contains, slice_get}
 use Rattle.srs.specs.declared.piece.Piece.{Piece}
 use Rattle.srs.specs.declared.piece.Piece.TheVariants.{I, T}
@@ -52,15 +52,10 @@ module _ (problem : Problem) (straight : Placement) (kind : straight.piece ≡ I
     only_one sequence (suc k, within, is) = absurd (omega (arith, within))
 
     second_is_not : IsCovered problem sequences 1 → ⊥
-    second_is_not covered =
-        let queue : Some covered.queue ≡ Some (T ∷ T ∷ []) = sym covered.there ∙ ap (λ qs. slice_get qs 1) all in
-        let pieces : pieces_of covered.sequence ≡ I ∷ [] = ap pieces_of (only_one covered.sequence covered.given) ∙ ap (λ p. p ∷ []) kind in
-        let permitted = subst (Permits problem.hold covered.queue problem.held) pieces covered.permitted in
-        let same : covered.queue ≡ T ∷ T ∷ [] = cc in no_way permitted.2 same held refl
+    second_is_not covered = search (rules, (only_one covered.sequence covered.given), no_way)
 
     there_are_two : (number : ℕ) → IsCovered problem sequences (suc (suc number)) → ⊥
-    there_are_two number covered =
-        let queue : Some covered.queue ≡ None = sym covered.there ∙ ap (λ qs. slice_get qs (suc (suc number))) all in cc
+    there_are_two number covered = search rules
 
     none_after_the_first : IsNextFrom (IsCovered problem sequences) 1 None
     none_after_the_first zero covered above = omega (arith, above)

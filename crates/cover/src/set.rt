@@ -56,6 +56,7 @@ impl CoverSet {
     ghost use Rattle.cover.specs.Kept.{lists_of, kept_problem};
 
     /// A set for a fit problem that keeps nothing yet. The only refusal is that memory runs out.
+    #[tactic(auto, using(std::proofs::Common::map), unfolding(crate::specs::Lists::has_kinds, crate::specs::Kept::kept_problem, crate::specs::Kept::lists_of))]
     pub fn start(alloc: Global, problem: Problem) -> Result<CoverSet, NoMemory>
         requires { IsFit problem }
         ensures problem { IfOk result (λ set. kept_problem set ≡ problem) }

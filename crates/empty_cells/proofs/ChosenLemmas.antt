@@ -20,13 +20,7 @@ span_inside E x span row a b has here = search (rules, and_parts, eqb-true, in_c
 
 pub chosen : (allowed : ℕ → Span → ℕ → Bool) (Fact : Field → Type 0) (E : Field) (x floor : ℕ) (spans : List Span) → Stacks allowed Fact E x floor spans → Chosen Fact E x floor spans
 unfolding Stacks in_stack
-chosen allowed Fact E x floor [] fact = record {
-  rows = λ k. k;
-  rises = record { rising = λ j k less below. absurd (omega arith) };
-  above = λ k below. absurd (omega arith);
-  within = record { inside = λ a b here. absurd (false≢true here) };
-  rest = subst Fact (sym (without_none E x (λ k. k))) fact;
-}
+chosen allowed Fact E x floor [] fact = search (rules, false≢true, (without_none E x (λ k. k)))
 chosen allowed Fact E x floor (span ∷ spans) taken =
     let row = taken.0 in
     let may = taken.1 in
@@ -137,10 +131,7 @@ follows-first E x y floor rows (span ∷ spans) lowest rises above within here =
     lies_below there = let row = row_of x (λ k. rows (suc k)) spans x y there in omega (arith, rises.rising 0 (suc row.0) (omega arith) (omega (arith, row.1)), row.2)
 
     later : has_first span ≡ false → in_stack x (λ k. rows (suc k)) spans x y ≡ true
-    later other = elim (or_cases (list_any (λ column. x + column == x) (columns_of span) && (rows 0 == y)) _ here) [
-      | inl head ↦ absurd (both_ways (has_first span) other (sym (first_of_columns (columns_of span) x) ∙ (and_parts _ _ head).0))
-      | inr tail ↦ tail
-    ]
+    later other = search (rules, (or_cases (list_any (λ column. x + column == x) (columns_of span) && (rows 0 == y))), (both_ways (has_first span) other), (first_of_columns (columns_of span) x), and_parts)
 
     takes_first : has_first span ≡ true → rows 0 ≡ y
     takes_first first =

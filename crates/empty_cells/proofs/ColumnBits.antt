@@ -1,5 +1,5 @@
 -- A column has as many cells as its byte has ones; and a wall stands behind it where no row has a cell there and in the next one.
-use Rattle.std.proofs.Common.{◌≡◌, ℕ, zero, suc, ◌+◌, ◌*◌, ◌++◌, ◌∷◌, [], ◌/◌, ◌%◌, ◌^◌, ◌<◌, ◌-◌, true, not, cond, ◌&&◌, ◌==◌, count_ones, w8, ◌↔◌, sym, ap, ◌∙◌, inl, inr, arith, rules}
+use Rattle.std.proofs.Common.{◌≡◌, ℕ, zero, suc, ◌+◌, ◌*◌, ◌++◌, ◌∷◌, [], ◌/◌, ◌%◌, ◌^◌, ◌<◌, true, not, cond, ◌&&◌, ◌==◌, count_ones, w8, ◌↔◌, ap, ◌∙◌, arith, rules}
 use Rattle.std.specs.Int.Count.{ones}
 use Rattle.std.specs.Prelude.{sum_by}
 use Rattle.std.specs.List.{range_with_len}
@@ -70,27 +70,5 @@ has_both E x y left right = ap (λ k. E k y && (E (x + 1) y && true)) {x = x + 0
 -- the rows that have both are none exactly where a wall stands there
 pub wall_by_rows : (E : Field) (x rows : ℕ) → IsSmall 8 E → rows < 2 ^ 8 → ((y : ℕ) → y < 8 → has_bit rows y ≡ has_span E x FirstTwo y) → ((rows == 0) ≡ true) ↔ IsWall (all_but E) 8 (x + 1)
 unfolding all_but has_bit
-wall_by_rows E x rows small low told = (none, back)
-  where
-    none : (rows == 0) ≡ true → IsWall (all_but E) 8 (x + 1)
-    none zero_rows = record {
-      apart = λ some within y below before here.
-          let column : x + 1 - 1 ≡ x = omega arith in
-          let left : E x y ≡ true = not-false (E x y) (ap (λ k. not (E k y)) (sym column) ∙ before) in
-          let right : E (x + 1) y ≡ true = not-false (E (x + 1) y) here in
-          both_ways _ (ap (λ n. has_bit n y) (eqb-true rows 0 zero_rows) ∙ has_bit-zero y) (told y below ∙ has_both E x y left right);
-    }
-
-    back : IsWall (all_but E) 8 (x + 1) → (rows == 0) ≡ true
-    back wall = elim (cases_eq rows 0) [
-      | inl zero_rows ↦ eq-eqb rows 0 zero_rows
-      | inr some ↦
-          let lowest = bit_at-trailing_zeros w8 rows (omega (arith, some)) low in
-          absurd (meets _ lowest.0 (ap (λ b. b == 1) lowest.1))
-    ]
-      where
-        meets : (y : ℕ) → y < 8 → has_bit rows y ≡ true → ⊥
-        meets y below bit =
-            let both = both_cells E x y (sym (told y below) ∙ bit) in
-            let column : x + 1 - 1 ≡ x = omega arith in
-            wall.apart (omega arith) (small.column (x + 1) y both.1) y below (ap (λ k. not (E k y)) column ∙ ap not both.0) (ap not both.1)
+wall_by_rows E x rows small low told =
+    search (rules, not-false, both_ways, (eqb-true rows 0), has_bit-zero, (has_both E x), (cases_eq rows 0), (eq-eqb rows 0), (bit_at-trailing_zeros w8 rows), (small.column (x + 1)), (both_cells E x))

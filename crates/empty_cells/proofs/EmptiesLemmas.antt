@@ -1,5 +1,5 @@
 -- The cells that the bits of a set stand for.
-use Rattle.std.proofs.Common.{◌≡◌, ℕ, ◌+◌, ◌*◌, ◌/◌, ◌%◌, ◌<◌, Bool, true, false, not, ◌&&◌, nat_lt, pos, ap, ◌∙◌, sym, inl, inr, arith, rules}
+use Rattle.std.proofs.Common.{◌≡◌, ℕ, ◌+◌, ◌*◌, ◌/◌, ◌%◌, ◌<◌, Bool, true, false, not, ◌&&◌, nat_lt, pos, ap, ◌∙◌, sym, arith, rules}
 use Rattle.std.proofs.Math.Path.{fun_ext}
 use Rattle.std.specs.Int.{bit_at}
 use Rattle.std.proofs.lemmas.Bool.{both_ways, false≢true, cases_lt, and_left, and_right, and_from, and_parts, le-ltb, lt-ltb, ltb-true}
@@ -24,31 +24,16 @@ no_bit n x y none = search (rules, cases_lt, and_right, and_left, le-ltb)
 -- the lowest bit is the lowest cell of the leftmost column
 pub first_from_lowest : (e : Empties) (t : ℕ) → bit_at e.cells t ≡ 1 → ((i : ℕ) → i < t → bit_at e.cells i ≡ 0) → IsFirst (empty_cells e) (t / 8) (t % 8)
 unfolding empty_cells has_bit
-first_from_lowest e t set lower = search (rules, and_from, lt-ltb, no_bit, within)
-  where
-    within : t < 80
-    within = elim (cases_lt t 80) [
-      | inl low ↦ low
-      | inr high ↦ absurd (omega (arith, bit_at_above e.cells 80 t e.in_columns high, set))
-    ]
+first_from_lowest e t set lower = search (rules, and_from, lt-ltb, no_bit, (cases_lt t 80), (bit_at_above e.cells 80 t e.in_columns))
 
 -- the cells lie in columns 0 to 9 and rows 0 to 7
 pub cells_small : (e : Empties) → IsSmall 8 (empty_cells e)
 unfolding empty_cells
-cells_small e = record {
-  column = λ a b here. elim (cases_lt a 10) [
-    | inl near ↦ near
-    | inr far ↦ absurd (both_ways _ (has_bit-past e.cells 80 (8 * a + b) e.in_columns (omega arith)) (and_parts (nat_lt b 8) _ here).1)
-  ];
-  row = λ a b here. ltb-true b 8 (and_parts (nat_lt b 8) _ here).0;
-}
+cells_small e = search (rules, cases_lt, both_ways, (has_bit-past e.cells 80), and_parts, nat_lt, ltb-true)
 
 -- what is taken beside the columns and rows makes no difference
 pub same_left : (e : Empties) (x y : ℕ) (q r : Bool) → (x < 10 → y < 8 → q ≡ r) → (empty_cells e x y && not q) ≡ (empty_cells e x y && not r)
-same_left e x y q r same = where_filled (empty_cells e x y) (λ has. same ((cells_small e).column x y has) ((cells_small e).row x y has))
-  where
-    where_filled : (p : Bool) → (p ≡ true → q ≡ r) → (p && not q) ≡ (p && not r)
-    where_filled p same = search rules
+same_left e x y q r same = search (rules, (cells_small e))
 
 -- sets with the same cells have the same bits
 pub same_bits : (e f : Empties) → empty_cells e ≡ empty_cells f → e.cells ≡ f.cells

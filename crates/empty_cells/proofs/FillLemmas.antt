@@ -1,5 +1,5 @@
 -- Cells can be filled exactly where there are none, or some piece of the supply stacks over one of them and the rest can be filled.
-use Rattle.std.proofs.Common.{◌≡◌, ℕ, ◌+◌, ◌<◌, ◌≤◌, Bool, true, false, not, ◌&&◌, ◌||◌, ℤ, pos, negsuc, ◌+ℤ◌, ◌-ℤ◌, List, length, map, refl, sym, ap, subst, ◌∙◌, inl, inr, arith, rules}
+use Rattle.std.proofs.Common.{◌≡◌, ℕ, ◌+◌, ◌<◌, Bool, true, false, not, ◌&&◌, ◌||◌, ℤ, pos, negsuc, ◌+ℤ◌, ◌-ℤ◌, List, length, map, refl, sym, ap, subst, ◌∙◌, arith, rules}
 use Rattle.std.proofs.Math.Path.{fun_ext}
 use Rattle.std.specs.List.{list_all}
 use Rattle.std.proofs.lemmas.Bool.{cases_Bool, cases_lt, both_ways, and_from, cond-true, cond-false, eqb-true, lt-ltb}
@@ -15,13 +15,13 @@ use Rattle.srs.proofs.CallerLemmas.{is_among-all, list_all-from_is_among, piece_
 use Rattle.prune.specs.Tiling.{Part, IsGeneralized, sent, is_empty_below, covers, Tiling, Supply}
 use Rattle.prune.specs.Laws.{with_one}
 use Rattle.prune.specs.OnePart.{with_cells, less_one}
-use Rattle.prune.proofs.CallerLemmas.{with_part, TakenPart, taken_part, has_cell-map, source_of}
+use Rattle.prune.proofs.CallerLemmas.{with_part, taken_part, has_cell-map, source_of}
 use Rattle.empty_cells.specs.declared.span.Span.{Span}
 use Rattle.empty_cells.specs.Empties.{all_but, has_cell}
 use Rattle.empty_cells.specs.Spans.{HasNoCell, IsFirst}
 use Rattle.empty_cells.specs.Stacks.{is_allowed, CanFill, Stacks, StacksPiece, in_stack, without_stack}
 use Rattle.empty_cells.proofs.EmptiesLemmas.{CellOf, cell_of}
-use Rattle.empty_cells.proofs.StackLemmas.{Rises, IsWithin, IsSmall, Follows, Chosen}
+use Rattle.empty_cells.proofs.StackLemmas.{Rises, IsWithin, IsSmall, Chosen}
 use Rattle.empty_cells.proofs.ChosenLemmas.{chosen, stacked, follows-first}
 use Rattle.empty_cells.proofs.FormLemmas.{leftmost, lowest, form, distance, place_in, Matches, sent_column, same_cells, left_cell, left_in_stack, stack_right_of, level_within, level_up, row_up, cell_at_level, row_by_level, form_within, form_of_place}
 
@@ -175,31 +175,14 @@ pub record FilledBy (height : ℕ) (E : Field) (supply : Supply) (x0 y0 : ℕ) :
   pub rest : CanFill height (less_one supply piece) (without_stack E x rows (form piece rotation))
 
 pub filled_by : (height : ℕ) (E : Field) (supply : Supply) (x0 y0 : ℕ) → IsSmall height E → E x0 y0 ≡ true → CanFill height supply E → FilledBy height E supply x0 y0
-filled_by height E supply x0 y0 small here filling = by_part (taken_part (all_but E) height supply (pos x0, pos y0) (empty_is height E x0 y0 small ∙ here) filling)
-  where
-    by_part : {parts : List Part} → TakenPart (all_but E) height supply (pos x0, pos y0) parts → FilledBy height E supply x0 y0
-    by_part t = search (rules, stack_of, left_by)
+filled_by height E supply x0 y0 small here filling =
+    search (rules, (taken_part (all_but E) height supply (pos x0, pos y0) (empty_is height E x0 y0 small ∙ here) filling), stack_of, left_by)
 
 -- spans of a piece that have the first cell of a set are stacked over it
 pub over_first : (E : Field) (x y : ℕ) (piece : Piece) (rotation : Rotation) (left : ℕ) (rows : ℕ → ℕ) (Fact : Field → Type 0) → IsFirst E x y → Rises rows (length (form piece rotation)) →
     IsWithin E left rows (form piece rotation) → in_stack left rows (form piece rotation) x y ≡ true → Fact (without_stack E left rows (form piece rotation)) → Stacks (is_allowed y) Fact E x 0 (form piece rotation)
 over_first E x y piece rotation left rows Fact first rises within has fact =
-    search (rules, stacked, same_column, follows)
-  where
-    spans : List Span
-    spans = form piece rotation
-
-    same_column : left ≡ x
-    same_column =
-        let there = left_in_stack piece rotation left rows in
-        let upper : left ≤ x = stack_right_of left rows spans x y has in
-        elim (cases_lt left x) [
-          | inl less ↦ absurd (both_ways (E left there.0) (first.leftmost left there.0 less) (within.inside left there.0 there.1))
-          | inr other ↦ omega arith
-        ]
-
-    follows : Follows (is_allowed y) 0 rows spans
-    follows = search (rules, follows-first, same_column)
+    search (rules, stacked, (stack_right_of left rows), (cases_lt left x), (both_ways (E left (left_in_stack piece rotation left rows).0)), (first.leftmost left (left_in_stack piece rotation left rows).0), (within.inside left (left_in_stack piece rotation left rows).0 (left_in_stack piece rotation left rows).1), follows-first)
 
 -- the lowest cell of the leftmost column is covered by spans that begin in that column
 pub record StackedFirst (E : Field) (supply : Supply) (x y : ℕ) : Type 0 where

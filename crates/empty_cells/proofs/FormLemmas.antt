@@ -1,5 +1,5 @@
 -- The shape of a piece in a rotation, by its rows: which spans they are, and where the lowest row and the leftmost column lie.
-use Rattle.std.proofs.Common.{◌≡◌, ℕ, zero, suc, ◌+◌, ◌<◌, ◌≤◌, Bool, true, not, ◌&&◌, ◌||◌, ◌==◌, nat_lt, ℤ, pos, negsuc, ◌+ℤ◌, ◌-ℤ◌, List, [], ◌∷◌, ◌++◌, length, map, get_or, refl, sym, ap, ap₂, ◌∙◌, inl, inr, arith, rules}
+use Rattle.std.proofs.Common.{◌≡◌, ℕ, zero, suc, ◌+◌, ◌<◌, ◌≤◌, Bool, true, not, ◌&&◌, ◌||◌, ◌==◌, nat_lt, ℤ, pos, negsuc, ◌+ℤ◌, ◌-ℤ◌, List, [], ◌∷◌, ◌++◌, length, map, get_or, refl, sym, ap, ◌∙◌, inl, inr, arith, rules}
 use Rattle.std.specs.Prelude.{int_lt}
 use Rattle.std.specs.List.{list_any, list_all, range_with_len}
 use Rattle.std.specs.Ordering.{int_eq}
@@ -210,9 +210,7 @@ same_cells piece rotation move row x rows matches a b =
     ∙ sym (stack_by_places x rows (form piece rotation) a b)
   where
     each : (c : Cell) → is_among (shape piece rotation) c ≡ true → cell_eq (sent move row c) (pos a, pos b) ≡ at_place x rows a b (place_in piece rotation c)
-    each c has = ap₂ ◌&&◌
-        (ap (λ z. int_eq z (pos a)) (sent_column piece rotation move x matches.column c has) ∙ int_eq-pos _ a)
-        (ap (λ y. int_eq (pos y) (pos b)) (matches.row_at c has) ∙ int_eq-pos _ b)
+    each c has = search (rules, (sent_column piece rotation move x matches.column), int_eq-pos, matches.row_at)
 
 -- a test that some cell passes
 pub some_cell : (test : Cell → Bool) (cells : List Cell) → list_any test cells ≡ true → (c : Cell) × (is_among cells c ≡ true) × (test c ≡ true)

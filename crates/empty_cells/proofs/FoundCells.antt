@@ -34,19 +34,11 @@ each_column row small x column =
 
 lowest_bit : (x y : ℕ) → x ≤ 9 → y < 8 → has_bit lowest_cells (8 * x + y) ≡ (y == 0)
 unfolding has_bit
-lowest_bit x y column row =
-    agree_below_at (has_bit lowest_cells) (λ k. k % 8 == 0) 80 (8 * x + y) refl (omega arith)
-    ∙ ap (λ k. k == 0) {x = (8 * x + y) % 8} {y = y} (omega arith)
+lowest_bit x y column row = search (rules, (agree_below_at (has_bit lowest_cells) (λ k. k % 8 == 0) 80 (8 * x + y) refl))
 
 pub spread-bits : (row : ℕ) → row < 1024 → (x y : ℕ) → x ≤ 9 → y < 8 → has_bit (spread_cells row) (8 * x + y) ≡ ((y == 0) && has_bit row x)
 spread-bits row small x y column low =
-    ap (λ n. has_bit n (8 * x + y)) (sym (in_lowest row small))
-    ∙ has_bit-and lowest_cells (spread_cells row) (8 * x + y)
-    ∙ ap (λ b. b && has_bit (spread_cells row) (8 * x + y)) (lowest_bit x y column low)
-    ∙ elim (cases_eq y 0) [
-      | inl zero_row ↦ ap (λ b. (y == 0) && b) (ap (has_bit (spread_cells row)) {x = 8 * x + y} {y = 8 * x} (omega arith) ∙ each_column row small x column)
-      | inr other ↦ and_left _ _ (ne_eqb y 0 other) ∙ sym (and_left _ _ (ne_eqb y 0 other))
-    ]
+    search (rules, (in_lowest row small), (has_bit-and lowest_cells (spread_cells row) (8 * x + y)), (lowest_bit x y column low), (cases_eq y 0), (each_column row small x column), and_left, (ne_eqb y 0))
 
 -- the empty cells of the rows before this one
 pub record IsFound (F : Field) (cells y : ℕ) : Type 0 where
@@ -63,10 +55,7 @@ module _ (s : ℕ) (has : ℕ → Bool) (bits : (x y : ℕ) → x ≤ 9 → y < 
 
   none_below : (y a b : ℕ) → y < 8 → a ≤ 9 → b < y → has_bit (s * 2 ^ y) (8 * a + b) ≡ false
   none_below y zero b row column below = has_bit-shifted_low s y (8 * 0 + b) (omega arith)
-  none_below y (suc a) b row column below =
-      has_bit-shifted_high s y (8 * suc a + b) (omega arith)
-      ∙ ap (has_bit s) {x = 8 * suc a + b - y} {y = 8 * a + (8 + b - y)} (omega arith)
-      ∙ none_there a (8 + b - y) (omega arith) (omega arith) (omega arith)
+  none_below y (suc a) b row column below = search (rules, (has_bit-shifted_high s y (8 * suc a + b)), (none_there a (8 + b - y)))
 
   raised-bits : (y a b : ℕ) → y < 8 → a ≤ 9 → b < 8 → has_bit (s * 2 ^ y) (8 * a + b) ≡ ((b == y) && has a)
   raised-bits y a b row column low = elim (cases_lt b y) [
@@ -117,7 +106,4 @@ empty-small row = xor_lt 10 1023 (bit_and 1023 row) (omega arith) (omega (arith,
 -- when the rows are over, all empty cells are found
 pub found-all : (F : Field) (rows y : ℕ) (e : Empties) → rows ≤ 8 → y ≡ rows → IsFound F e.cells y → empty_cells e ≡ difference (rows_below rows) F
 unfolding empty_cells difference rows_below
-found-all F rows y e few last found = fun_ext (λ a. fun_ext (λ b. elim (cases_lt a 10) [
-  | inl near ↦ search (rules, cases_lt, lt-ltb, and_left, le-ltb, and_right)
-  | inr far ↦ and_right _ _ (has_bit-past e.cells 80 (8 * a + b) e.in_columns (omega arith)) ∙ sym (and_left _ _ (and_left _ _ (le-ltb a 10 far)))
-]))
+found-all F rows y e few last found = search (rules, fun_ext, cases_lt, lt-ltb, and_left, le-ltb, and_right, (has_bit-past e.cells 80))

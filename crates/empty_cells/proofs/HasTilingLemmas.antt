@@ -42,13 +42,10 @@ one_fails test (x ∷ xs) d not_all = elim (and_cases (test x) _ not_all) [
 
 some_below : (test : ℕ → Bool) (n : ℕ) → list_any test (range_with_len 0 n) ≡ true → (i : ℕ) × (i < n) × (test i ≡ true)
 some_below test n some =
-    let found = some_item test (range_with_len 0 n) 0 some in
-    let below : found.0 < n = omega (arith, found.1, length-range_with_len 0 n) in
-    (found.0, below, subst (λ k. test k ≡ true) (get_or-range_with_len 0 n found.0 0 below ∙ omega arith) found.2)
+    search (rules, (some_item test (range_with_len 0 n) 0 some), (length-range_with_len 0 n), (get_or-range_with_len 0 n (some_item test (range_with_len 0 n) 0 some).0 0))
 
 at_number : (test : ℕ → Bool) (n i : ℕ) → i < n → test i ≡ true → list_any test (range_with_len 0 n) ≡ true
-at_number test n i below here =
-    list_any_at test (range_with_len 0 n) i 0 (omega (arith, length-range_with_len 0 n)) (ap test {y = i} (get_or-range_with_len 0 n i 0 below ∙ omega arith) ∙ here)
+at_number test n i below here = search (rules, (list_any_at test (range_with_len 0 n) i 0), (length-range_with_len 0 n), (get_or-range_with_len 0 n i 0 below))
 
 -- a set with no cell below the row that bounds it has none
 empty-from_test : (height : ℕ) (E : Field) → IsSmall height E → is_empty height E ≡ true → HasNoCell E
@@ -129,13 +126,8 @@ some_in_total supply piece = search rules
 
 pub test-from_fill : (n height : ℕ) (supply : Supply) (E : Field) → total supply ≤ n → IsSmall height E → CanFill height supply E → can_fill n height supply E ≡ true
 unfolding can_fill
-test-from_fill zero height supply E enough small filling = elim (cases_Bool (is_empty height E)) [
-  | inl empty ↦ empty
-  | inr some ↦
-      let cell = some_cell height E some in
-      let by = filled_by height E supply cell.0 cell.1 small cell.2 filling in
-      absurd (omega (arith, by.some, some_in_total supply by.piece))
-]
+test-from_fill zero height supply E enough small filling =
+    search (rules, (cases_Bool (is_empty height E)), (filled_by height E supply), (some_cell height E), (some_in_total supply))
 test-from_fill (suc n) height supply E enough small filling = elim (cases_Bool (is_empty height E)) [
   | inl empty ↦ or_left (is_empty height E) _ empty
   | inr some ↦ let cell = some_cell height E some in or_right (is_empty height E) _ (with_piece (λ fewer G enough. test-from_fill n height fewer G enough) (filled_by height E supply cell.0 cell.1 small cell.2 filling))

@@ -98,9 +98,7 @@ module _ (E : Field) (x : ℕ) (small : IsSmall 8 E) (none : (a b : ℕ) → a <
 
   same_back : (cell : Cell) → is_empty_below (all_but E) 8 cell ≡ is_empty_below (all_but (from_column x E)) 8 (moved_cell (neg_ℤ (pos x)) cell)
   unfolding moved_cell
-  same_back cell =
-      let column : cell.0 ≡ (cell.0 +ℤ neg_ℤ (pos x)) +ℤ pos x = omega (arith, ints) in
-      ap (λ z. is_empty_below (all_but E) 8 (z, cell.1)) column ∙ sym (same_empty (moved_cell (neg_ℤ (pos x)) cell))
+  same_back cell = search (rules, (cell.0 +ℤ neg_ℤ (pos x)), (same_empty (moved_cell (neg_ℤ (pos x)) cell)))
 
   -- both have a tiling, or none has
   pub both_moved : (supply : Supply) → Tiling (all_but (from_column x E)) 8 supply ↔ Tiling (all_but E) 8 supply

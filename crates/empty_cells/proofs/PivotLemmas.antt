@@ -1,5 +1,5 @@
 -- Pivots: each placement of a piece has a bit of its own.
-use Rattle.std.proofs.Common.{◌≡◌, ◌≢◌, ℕ, ◌+◌, ◌*◌, ◌/◌, ◌%◌, ◌^◌, ◌<◌, ◌≤◌, true, false, ◌&&◌, ◌||◌, ◌==◌, nat_lt, bit_or, List, length, replicate, set, get_or, sym, ap, ap₂, ◌∙◌, inl, inr, arith, rules}
+use Rattle.std.proofs.Common.{◌≡◌, ◌≢◌, ℕ, ◌+◌, ◌*◌, ◌/◌, ◌%◌, ◌^◌, ◌<◌, ◌≤◌, true, false, ◌&&◌, ◌||◌, ◌==◌, nat_lt, bit_or, List, length, replicate, set, get_or, arith, rules}
 use Rattle.std.proofs.lemmas.Bool.{both_ways, cases_eq, cases_lt, and_parts, and_from, or_cases, or_left, or_right, eq-eqb, eqb-true, lt-ltb, ltb-true}
 use Rattle.std.proofs.lemmas.List.{get_or-replicate, get_or-set_same, get_or-set_other, get_or_past}
 use Rattle.lane_board.specs.Lanes.{has_bit}
@@ -40,42 +40,23 @@ module _ (p : Pivots) (whole : length p.rotations ≡ 8) (q : Placement) (column
 
   bits_here : (r : Placement) → word_of r ≡ word → r.x < 16 → r.y < 8 →
       has_bit (bits_at (with_bit p.rotations word bit) r) (bit_of r) ≡ (has_bit (bits_at p.rotations r) (bit_of r) || (bit == bit_of r))
-  bits_here r same narrow low =
-      ap (λ k. has_bit (get_or (with_bit p.rotations word bit) k 0) (bit_of r)) same
-      ∙ ap (λ n. has_bit n (bit_of r)) (get_or-set_same p.rotations word _ 0 within)
-      ∙ has_bit-or (get_or p.rotations word 0) _ (bit_of r)
-      ∙ ap₂ ◌||◌ (ap (λ k. has_bit (get_or p.rotations k 0) (bit_of r)) (sym same)) (one_bit 64 bit (bit_of r) (omega arith))
+  bits_here r same narrow low = search (rules, get_or-set_same, within, has_bit-or, (one_bit 64))
 
   bits_there : (r : Placement) → word_of r ≢ word → bits_at (with_bit p.rotations word bit) r ≡ bits_at p.rotations r
   bits_there r other = get_or-set_other p.rotations word (word_of r) _ 0 other
 
   pub has_added : has_pivot after q ≡ true
   unfolding has_pivot cells_of_words
-  has_added = and_from _ _ (and_from _ _ (lt-ltb q.x 16 (omega arith)) (lt-ltb q.y 8 (omega arith)))
-      (bits_here q (sym is_word) (omega arith) (omega arith) ∙ or_right (has_bit (bits_at p.rotations q) (bit_of q)) _ (eq-eqb bit (bit_of q) is_bit))
+  has_added = search (rules, and_from, lt-ltb, bits_here, or_right, eq-eqb)
 
   pub keeps_added : (r : Placement) → has_pivot p r ≡ true → has_pivot after r ≡ true
   unfolding has_pivot cells_of_words
-  keeps_added r has =
-      let parts = and_parts (nat_lt r.x 16 && nat_lt r.y 8) (has_bit (bits_at p.rotations r) (bit_of r)) has in
-      let reach = in_reach r parts.0 in
-      and_from _ _ parts.0 (elim (cases_eq (word_of r) word) [
-        | inl same ↦ bits_here r same reach.0 reach.1 ∙ or_left _ _ parts.1
-        | inr other ↦ ap (λ n. has_bit n (bit_of r)) (bits_there r other) ∙ parts.1
-      ])
+  keeps_added r has = search (rules, (in_reach r), (and_parts (nat_lt r.x 16 && nat_lt r.y 8)), and_from, (cases_eq (word_of r)), (bits_here r), or_left, (bits_there r))
 
   pub only_added : (r : Placement) → r.piece ≡ q.piece → has_pivot after r ≡ true → has_pivot p r ≡ false → r ≡ q
   unfolding has_pivot cells_of_words
   only_added r piece has none =
-      let parts = and_parts (nat_lt r.x 16 && nat_lt r.y 8) (has_bit (bits_at (with_bit p.rotations word bit) r) (bit_of r)) has in
-      let reach = in_reach r parts.0 in
-      elim (cases_eq (word_of r) word) [
-        | inl same ↦ elim (or_cases (has_bit (bits_at p.rotations r) (bit_of r)) _ (sym (bits_here r same reach.0 reach.1) ∙ parts.1)) [
-          | inl old ↦ absurd (both_ways _ none (and_from _ _ parts.0 old))
-          | inr new ↦ search (rules, eqb-true, rotation_place-injective)
-        ]
-        | inr other ↦ absurd (both_ways _ none (and_from _ _ parts.0 (sym (ap (λ n. has_bit n (bit_of r)) (bits_there r other)) ∙ parts.1)))
-      ]
+      search (rules, (and_parts (nat_lt r.x 16 && nat_lt r.y 8)), (cases_eq (word_of r)), or_cases, (bits_here r), (in_reach r), both_ways, and_from, eqb-true, rotation_place-injective, (bits_there r))
 
 -- no word of these has a bit
 pub no_words : (k : ℕ) → get_or {A = ℕ} (replicate 8 0) k 0 ≡ 0

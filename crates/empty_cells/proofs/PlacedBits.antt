@@ -1,5 +1,5 @@
 -- The bits of a shape, moved with its pivot, are those of the placement's cells.
-use Rattle.std.proofs.Common.{◌≡◌, ℕ, ◌+◌, ◌*◌, ◌/◌, ◌%◌, ◌^◌, ◌<◌, ◌≤◌, Bool, true, false, ◌&&◌, ◌==◌, nat_le, nat_lt, ℤ, pos, ◌+ℤ◌, ◌≤ℤ◌, nat_abs, bit_and, List, [], ◌∷◌, map, refl, sym, ◌∙◌, inl, inr, arith, rules}
+use Rattle.std.proofs.Common.{◌≡◌, ℕ, ◌+◌, ◌*◌, ◌/◌, ◌%◌, ◌^◌, ◌<◌, ◌≤◌, Bool, true, false, ◌&&◌, ◌==◌, nat_le, nat_lt, ℤ, pos, ◌+ℤ◌, ◌≤ℤ◌, nat_abs, bit_and, List, [], ◌∷◌, map, refl, arith, rules}
 use Rattle.std.specs.List.{list_all, list_any}
 use Rattle.std.specs.Ordering.{int_eq}
 use Rattle.std.proofs.lemmas.Bool.{agree_below, agree_below_at, and_from, and_parts, cases_lt, eq-eqb, eqb-true, false_from_ne_true, le-leb, leb-true, ltb-true, ne_eqb}
@@ -66,11 +66,8 @@ none_past k (c ∷ cells) near past = search (rules, and_parts, near_within, ne_
 -- the bits of the table are those of the shapes
 shape_bit : (p : Piece) (r : Rotation) (k : ℕ) → has_bit (shape_bits p r) k ≡ has_shape_bit (shape p r) k
 unfolding has_bit
-shape_bit p r k = elim (cases_lt k 40) [
-  | inl low ↦ agree_below_at (has_bit (shape_bits p r)) (has_shape_bit (shape p r)) 40 k (each_state (λ p r. agree_below (has_bit (shape_bits p r)) (has_shape_bit (shape p r)) 40) refl p r) low
-  | inr high ↦ has_bit-past (shape_bits p r) 40 k (ltb-true _ _ (each_state (λ p r. nat_lt (shape_bits p r) (2 ^ 40)) refl p r)) high
-      ∙ sym (none_past k (shape p r) (shape_near p r) high)
-]
+shape_bit p r k =
+    search (rules, (cases_lt k 40), (agree_below_at (has_bit (shape_bits p r)) (has_shape_bit (shape p r)) 40 k (each_state (λ p r. agree_below (has_bit (shape_bits p r)) (has_shape_bit (shape p r)) 40) refl p r)), (has_bit-past (shape_bits p r) 40 k), ltb-true, (each_state (λ p r. nat_lt (shape_bits p r) (2 ^ 40)) refl p r), (none_past k (shape p r) (shape_near p r)))
 
 -- the rows that are kept, tried for each row of the pivot
 pub keeps : (y : ℕ) → y ≤ 9 → Keeps (bit_and (1020 / 2 ^ y) 255 * 4311810305) y
@@ -89,14 +86,7 @@ keeps y low = record {
 pub placed_bit : (p : Piece) (r : Rotation) (rows x y a b : ℕ) → Keeps rows y → a ≤ 9 → b ≤ 7 →
     has_bit (bit_and (shape_bits p r) rows * 2 ^ (8 * x + y) % 2 ^ 128 / 2 ^ 18) (8 * a + b) ≡ is_among (map (moved (pos x, pos y)) (shape p r)) (pos a, pos b)
 placed_bit p r rows x y a b keeps column row =
-    let n = bit_and (shape_bits p r) rows in
-    has_bit-shifted_right (n * 2 ^ (8 * x + y) % 2 ^ 128) 18 (8 * a + b)
-    ∙ has_bit-low (n * 2 ^ (8 * x + y)) 128 (18 + (8 * a + b)) (omega arith)
-    ∙ elim (cases_lt (18 + (8 * a + b)) (8 * x + y)) [
-      | inl low ↦ has_bit-shifted_low n (8 * x + y) (18 + (8 * a + b)) low ∙ sym (none_low x y a b (shape p r) (omega arith))
-      | inr high ↦ search (rules, has_bit-shifted_high, has_bit-and, shape_bit, bits_here, shape_near, keeps)
-    ]
-    ∙ sym (all_here x y a b (shape p r) (shape_near p r))
+    search (rules, (has_bit-shifted_right ((bit_and (shape_bits p r) rows) * 2 ^ (8 * x + y) % 2 ^ 128) 18 (8 * a + b)), (has_bit-low ((bit_and (shape_bits p r) rows) * 2 ^ (8 * x + y)) 128 (18 + (8 * a + b))), (cases_lt (18 + (8 * a + b)) (8 * x + y)), (has_bit-shifted_low (bit_and (shape_bits p r) rows) (8 * x + y) (18 + (8 * a + b))), (none_low x y a b (shape p r)), has_bit-shifted_high, has_bit-and, shape_bit, bits_here, shape_near, keeps, (all_here x y a b (shape p r) (shape_near p r)))
 
 -- where the pivot lies further off, no cell lies in the columns and rows
 pub none_placed : (p : Piece) (r : Rotation) (x y a b : ℕ) → a ≤ 9 → b ≤ 7 → (x < 12 → y < 10 → ⊥) → is_among (map (moved (pos x, pos y)) (shape p r)) (pos a, pos b) ≡ false

@@ -1,5 +1,5 @@
 -- The rows that the lowest span may take, as bits.
-use Rattle.std.proofs.Common.{◌≡◌, ℕ, ◌<◌, bit_and, Bool, true, false, not, ◌&&◌, nat_le, refl, sym, ap₂, ◌∙◌, rules}
+use Rattle.std.proofs.Common.{◌≡◌, ℕ, ◌<◌, bit_and, Bool, true, false, not, ◌&&◌, nat_le, refl, ap₂, ◌∙◌, rules}
 use Rattle.std.proofs.lemmas.Bool.{and_from, and_parts, both_ways, le-leb, leb-true, agree_below_at}
 use Rattle.lane_board.specs.Field.{Field}
 use Rattle.lane_board.specs.Lanes.{has_bit}
@@ -19,10 +19,7 @@ module _ (E : Field) (x y floor : ℕ) (span : Span) (rows permitted : ℕ) (has
   bits row low = has_bit-and rows permitted row ∙ ap₂ ◌&&◌ (has row low) (allowed row low)
 
   pub may_from_bit : (row : ℕ) → row < 8 → has_bit (bit_and rows permitted) row ≡ true → MayTake (is_allowed y) E x floor span row
-  may_from_bit row low bit =
-      let both = and_parts _ _ (sym (bits row low) ∙ bit) in
-      let inner = and_parts _ _ both.1 in
-      record { above = leb-true floor row inner.0; permitted = inner.1; has = both.0 }
+  may_from_bit row low bit = search (rules, leb-true, and_parts, (bits row low))
 
   pub bit_from_may : (row : ℕ) → row < 8 → MayTake (is_allowed y) E x floor span row → has_bit (bit_and rows permitted) row ≡ true
   bit_from_may row low may = bits row low ∙ and_from _ _ may.has (and_from _ _ (le-leb floor row may.above) may.permitted)

@@ -1,5 +1,5 @@
 -- A set with one cell more, and cells whose rows are sent to others.
-use Rattle.std.proofs.Common.{◌≡◌, ℕ, ◌+◌, ◌-◌, ◌*◌, ◌^◌, ◌%◌, ◌<◌, ◌≤◌, true, ◌&&◌, ◌||◌, ◌==◌, nat_lt, bit_or, List, [], ◌∷◌, map, refl, sym, ap, subst, ◌∙◌, inl, inr, arith, rules}
+use Rattle.std.proofs.Common.{◌≡◌, ℕ, ◌+◌, ◌-◌, ◌*◌, ◌^◌, ◌%◌, ◌<◌, ◌≤◌, true, ◌&&◌, ◌||◌, ◌==◌, nat_lt, bit_or, List, [], ◌∷◌, map, refl, ap, rules}
 use Rattle.std.specs.List.{list_any}
 use Rattle.std.proofs.lemmas.Bool.{cases_eq, cases_lt, and_from, and_left, and_parts, and_right, eq-eqb, eqb-true, le-ltb, lt-ltb, ne_eqb}
 use Rattle.std.proofs.lemmas.Nat.{one_shl, or_lt, pow_below}
@@ -14,22 +14,13 @@ lowest = refl
 
 -- a word with one bit
 pub one_bit : (width bit k : ℕ) → k < width → has_bit (1 * 2 ^ bit % 2 ^ width) k ≡ (bit == k)
-one_bit width bit k within = has_bit-low (1 * 2 ^ bit) width k within ∙ elim (cases_lt k bit) [
-  | inl under ↦ has_bit-shifted_low 1 bit k under ∙ sym (ne_eqb bit k (λ e. omega arith))
-  | inr from ↦ has_bit-shifted_high 1 bit k from ∙ elim (cases_eq bit k) [
-    | inl same ↦ ap (has_bit 1) {x = k - bit} {y = 0} (omega arith) ∙ lowest ∙ sym (eq-eqb bit k same)
-    | inr apart ↦ has_bit-past 1 1 (k - bit) (omega arith) (omega arith) ∙ sym (ne_eqb bit k apart)
-  ]
-]
+one_bit width bit k within =
+    search (rules, (has_bit-low (1 * 2 ^ bit) width k within), (cases_lt k bit), (has_bit-shifted_low 1 bit k), (ne_eqb bit k), (has_bit-shifted_high 1 bit k), (cases_eq bit k), lowest, (eq-eqb bit k), (has_bit-past 1 1 (k - bit)))
 
 -- each cell of the columns and rows has a bit of its own
 own_bit : (x y a b : ℕ) → x ≤ 9 → y ≤ 7 → b < 8 → has_bit (1 * 2 ^ (8 * x + y) % 2 ^ 128) (8 * a + b) ≡ (x == a && y == b)
-own_bit x y a b column row low = elim (cases_lt (8 * a + b) 128) [
-  | inl within ↦ one_bit 128 (8 * x + y) (8 * a + b) within ∙ same_from_both _ _
-      (λ e. let same : 8 * x + y ≡ 8 * a + b = eqb-true _ _ e in and_from _ _ (eq-eqb x a (omega (arith, same))) (eq-eqb y b (omega (arith, same))))
-      (λ e. let parts = and_parts (x == a) (y == b) e in let same_x : x ≡ a = eqb-true x a parts.0 in let same_y : y ≡ b = eqb-true y b parts.1 in eq-eqb _ _ (omega (arith, same_x, same_y)))
-  | inr past ↦ has_bit-past (1 * 2 ^ (8 * x + y) % 2 ^ 128) 128 (8 * a + b) (omega arith) past ∙ sym (and_left (x == a) (y == b) (ne_eqb x a (λ e. omega (arith, e))))
-]
+own_bit x y a b column row low =
+    search (rules, (cases_lt (8 * a + b) 128), (one_bit 128 (8 * x + y) (8 * a + b)), same_from_both, eqb-true, and_from, (eq-eqb x a), (eq-eqb y b), (eqb-true x a), (and_parts (x == a) (y == b)), (eqb-true y b), eq-eqb, (has_bit-past (1 * 2 ^ (8 * x + y) % 2 ^ 128) 128 (8 * a + b)), (and_left (x == a) (y == b)), (ne_eqb x a))
 
 pub bit_added : (n x y a b : ℕ) → x ≤ 9 → y ≤ 7 → (nat_lt b 8 && has_bit (bit_or n (1 * 2 ^ (8 * x + y) % 2 ^ 128)) (8 * a + b)) ≡ ((nat_lt b 8 && has_bit n (8 * a + b)) || (x == a && y == b))
 bit_added n x y a b column row = search (rules, cases_lt, lt-ltb, has_bit-or, own_bit, le-ltb, and_right, ne_eqb)
@@ -41,5 +32,4 @@ among_sent f [] cell = refl
 among_sent f (c ∷ cells) cell = ap (λ b. cell_eq (f c) cell || b) (among_sent f cells cell)
 
 pub added_small : (n x y : ℕ) → n < 2 ^ 80 → x ≤ 9 → y ≤ 7 → bit_or n (1 * 2 ^ (8 * x + y) % 2 ^ 128) < 2 ^ 80
-added_small n x y small column row =
-    subst (λ b. bit_or n b < 2 ^ 80) (sym (one_shl (8 * x + y) 128 (omega arith))) (or_lt 80 n (2 ^ (8 * x + y)) small (pow_below (8 * x + y) 80 (omega arith)))
+added_small n x y small column row = search (rules, (bit_or n), (one_shl (8 * x + y) 128), (or_lt 80 n (2 ^ (8 * x + y)) small), (pow_below (8 * x + y) 80))

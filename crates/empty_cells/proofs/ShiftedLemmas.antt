@@ -60,10 +60,7 @@ counted_from x E d y first = search (rules, fun_ext, cases_lt, none_before, from
 -- the cells lie in columns 0 to 9 and rows 0 to 7
 pub shifted_small : (s : Shifted) → IsSmall 8 (shifted_cells s)
 unfolding to_column
-shifted_small s = record {
-  column = λ a b here. let parts = and_parts (nat_le s.x a) _ here in omega (arith, leb-true s.x a parts.0, s.within (a - s.x) b parts.1);
-  row = λ a b here. (cells_small s.cells).row (a - s.x) b (and_parts (nat_le s.x a) _ here).1;
-}
+shifted_small s = search (rules, (leb-true s.x), and_parts, s.within, (cells_small s.cells))
 
 -- both have a tiling, or none has
 pub tiled_there : (s : Shifted) (supply : Supply) → Tiling (all_but (empty_cells s.cells)) 8 supply ↔ Tiling (all_but (shifted_cells s)) 8 supply

@@ -19,10 +19,7 @@ none_above : (span : Span) (k : ℕ) → 32 ≤ k → is_column_bit span k ≡ f
 none_above span k above = search rules
 
 pub each_column_bit : (span : Span) (n k : ℕ) → n < 2 ^ 32 → ((j : ℕ) → j < 32 → has_bit n j ≡ is_column_bit span j) → has_bit n k ≡ is_column_bit span k
-each_column_bit span n k small below = elim (cases_lt k 32) [
-  | inl low ↦ below k low
-  | inr high ↦ has_bit-past n 32 k small high ∙ sym (none_above span k high)
-]
+each_column_bit span n k small below = search (rules, (cases_lt k 32), (has_bit-past n 32 k small), (none_above span k))
 
 -- bits further up, taken together
 
@@ -73,9 +70,4 @@ left_small n m small = xor_lt 80 n (bit_and n m) small (omega (arith, and_le_l n
 
 -- to move to a row and then to a column is to move once
 pub moved_twice : (m x y : ℕ) → m < 2 ^ 32 → y < 8 → (m * 2 ^ y % 2 ^ 64) * 2 ^ (8 * x) ≡ m * 2 ^ (8 * x + y)
-moved_twice m x y low small =
-    ap (λ n. n * 2 ^ (8 * x)) {x = m * 2 ^ y % 2 ^ 64} {y = m * 2 ^ y} (omega (arith, below)) ∙ mul_assoc m (2 ^ y) (2 ^ (8 * x))
-    ∙ ap (λ n. m * n) (sym (pow-add 2 y (8 * x)) ∙ ap (λ k. 2 ^ k) {x = y + 8 * x} {y = 8 * x + y} (omega arith))
-  where
-    below : m * 2 ^ y < 2 ^ 32 * 2 ^ 8
-    below = mul-lt m (2 ^ y) (2 ^ 32) (2 ^ 8) low (pow_below y 8 small)
+moved_twice m x y low small = search (rules, (mul_assoc m (2 ^ y) (2 ^ (8 * x))), (pow-add 2 y (8 * x)), (mul-lt m (2 ^ y) (2 ^ 32) (2 ^ 8) low (pow_below y 8 small)))

@@ -38,31 +38,14 @@ module _ (n k : ℕ) (some : 0 < n / 2 ^ (8 * k) % 256) where
   above d = split (n - 2 ^ (8 * k)) ∙ ap (λ m. m / 2 ^ (8 * d)) (omega (arith, quotient, some)) ∙ sym (split n)
     where
       split : (m : ℕ) → m / 2 ^ (8 * (k + d + 1)) ≡ m / 2 ^ (8 * k) / 256 / 2 ^ (8 * d)
-      split m =
-          ap (λ e. m / 2 ^ e) {x = 8 * (k + d + 1)} {y = 8 * k + 8 + 8 * d} (omega arith) ∙ sym (shr-shr m (8 * k + 8) (8 * d))
-          ∙ ap (λ m. m / 2 ^ (8 * d)) (sym (shr-shr m (8 * k) 8))
+      split m = search (rules, (shr-shr m (8 * k + 8) (8 * d)), (shr-shr m (8 * k) 8))
 
   below : (j d : ℕ) → k ≡ j + d + 1 → (n - 2 ^ (8 * k)) / 2 ^ (8 * j) % 256 ≡ n / 2 ^ (8 * j) % 256
-  below j d at = omega (arith, ap (λ m. m / 2 ^ (8 * j)) whole ∙ add-mul-div_left (n - 2 ^ (8 * k)) (256 * 2 ^ (8 * d)) (pow_pos (8 * j)))
-    where
-      power : 2 ^ (8 * k) ≡ 2 ^ (8 * j) * (256 * 2 ^ (8 * d))
-      power =
-          ap (λ e. 2 ^ e) {x = 8 * k} {y = 8 * j + (8 + 8 * d)} (omega (arith, at)) ∙ pow-add 2 (8 * j) (8 + 8 * d)
-          ∙ ap (λ p. 2 ^ (8 * j) * p) (pow-add 2 8 (8 * d))
-
-      whole : n ≡ n - 2 ^ (8 * k) + 2 ^ (8 * j) * (256 * 2 ^ (8 * d))
-      whole = omega (arith, holds_one, power)
+  below j d at =
+      search (rules, (add-mul-div_left (n - 2 ^ (8 * k)) (256 * 2 ^ (8 * d)) (pow_pos (8 * j))), (pow-add 2 (8 * j) (8 + 8 * d)), (pow-add 2 8 (8 * d)), holds_one)
 
   other_byte : (j : ℕ) → (j ≡ k → ⊥) → (n - 2 ^ (8 * k)) / 2 ^ (8 * j) % 256 ≡ n / 2 ^ (8 * j) % 256
-  other_byte j other = elim (cases_lt j k) [
-    | inl lower ↦ below j (k - j - 1) (omega (arith, lower))
-    | inr from ↦ elim (cases_eq j k) [
-      | inl same ↦ absurd (other same)
-      | inr apart ↦
-          let at : k + (j - k - 1) + 1 ≡ j = omega (arith, from, apart) in
-          ap (λ i. (n - 2 ^ (8 * k)) / 2 ^ (8 * i) % 256) (sym at) ∙ ap (λ q. q % 256) (above (j - k - 1)) ∙ ap (λ i. n / 2 ^ (8 * i) % 256) at
-    ]
-  ]
+  other_byte j other = search (rules, (cases_lt j k), (below j (k - j - 1)), (cases_eq j k), (above (j - k - 1)))
 
 one_less_byte : (n : ℕ) (piece other : Piece) → 0 < supply_in (to_le_bytes w64 n) piece → supply_in (to_le_bytes w64 (n - 2 ^ (8 * (piece_code piece - 1)))) other ≡ less_one (supply_in (to_le_bytes w64 n)) piece other
 unfolding less_one

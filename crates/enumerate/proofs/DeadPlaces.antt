@@ -1,5 +1,5 @@
 -- Places that leave no tiling have nothing to do, so they may be left out.
-use Rattle.std.proofs.Common.{◌≡◌, ℕ, ◌-◌, ◌≤◌, Bool, true, false, not, ◌&&◌, List, [], ◌∷◌, ◌++◌, refl, sym, ap, subst, ◌∙◌, arith, rules}
+use Rattle.std.proofs.Common.{◌≡◌, ℕ, ◌-◌, ◌≤◌, Bool, true, false, not, ◌&&◌, List, [], ◌∷◌, ◌++◌, refl, sym, ap, ◌∙◌, arith, rules}
 use Rattle.std.specs.Prelude.{Some, filter, if◌then◌else◌, min}
 use Rattle.std.specs.List.{flat_map}
 use Rattle.std.proofs.lemmas.Bool.{cases_Bool, cond-true, cond-false}
@@ -68,8 +68,7 @@ module _ (setup : Setup) (piece : Piece) (some : 1 ≤ setup.left) (supply : Sup
   -- and what leaves one leads on
   pub live_found : (q : Placement) → q.piece ≡ piece → may_lock (filled setup.well) piece q ≡ true → is_below setup.rows q ≡ true →
       leaves_tiling (empty_cells setup.empties) q (supply_of supply) ≡ true → LeadsOn setup q
-  live_found q of_kind lockable below tiled table mode left less =
-      subst (λ left. is_live left (after_of (position_of table mode setup) q) ≡ true) (omega (arith, less)) (after-tiled q of_kind lockable below table mode ∙ tiled)
+  live_found q of_kind lockable below tiled table mode left less = search (rules, (after-tiled q of_kind lockable below table mode))
 
 module _ (frame : Frame) (places : LowPlaces) (is : frame.places ≡ Some places) (words : List ℕ) (are : AreDead frame.setup (piece_of places) words) where
   abbrev is_dead : Placement → Bool

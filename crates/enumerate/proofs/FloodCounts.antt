@@ -43,19 +43,12 @@ sum_by-past f p (q ∷ qs) among =
           let under : is_above placement_cmp (Some p) q ≡ false = subst (λ z. is_above placement_cmp (Some p) z ≡ false) (sym here) (ap is_lt (tied_itself placement_cmp-total p)) in
           let same : f q ≡ f p = ap f here in
           omega (arith, same, sum_by-filter_le f later qs, ap (sum_by f) (filter-false later q qs under), sum_by-cons f q qs)
-      | inr there ↦
-          let rest = sum_by-past f p qs there in
-          elim (cases_Bool (later q)) [
-            | inl kept ↦ omega (arith, rest, ap (sum_by f) (filter-true later q qs kept), sum_by-cons f q (filter later qs), sum_by-cons f q qs)
-            | inr dropped ↦ omega (arith, rest, ap (sum_by f) (filter-false later q qs dropped), sum_by-cons f q qs)
-          ]
+      | inr there ↦ search (rules, (cases_Bool (later q)), (sum_by-past f p qs there), (filter-true later q qs), (sum_by-cons f q (filter later qs)), (sum_by-cons f q qs), (filter-false later q qs))
     ]
 
 sum_by-last_kinds : (f : Piece → ℕ) (piece : Piece) → f piece + sum_by f (drop (piece_code piece) all_pieces) ≤ sum_by f all_pieces
 sum_by-last_kinds f piece =
-    let split : sum_by f all_pieces ≡ sum_by f (take (piece_code piece - 1) all_pieces ++ (piece ∷ drop (piece_code piece) all_pieces)) = ap (sum_by f) (kinds-split piece) in
-    let joined = sum_by-append f (take (piece_code piece - 1) all_pieces) (piece ∷ drop (piece_code piece) all_pieces) in
-    omega (arith, split, joined, sum_by-cons f piece (drop (piece_code piece) all_pieces))
+    search (rules, (kinds-split piece), (sum_by-append f (take (piece_code piece - 1) all_pieces) (piece ∷ drop (piece_code piece) all_pieces)), (sum_by-cons f piece (drop (piece_code piece) all_pieces)))
 
 module _ (left : ℕ) (prefix : List Placement) (n : Position) (q : Placement) (given : List Placement)
     (fewer : floods (sought left (prefix ++ q ∷ []) (after_of n q) given) ≤ floods (enter left (prefix ++ q ∷ []) (after_of n q))) where
@@ -71,9 +64,7 @@ module _ (left : ℕ) (prefix : List Placement) (n : Position) (q : Placement) (
   floods-kind : (b : Bool) → floods (if b then Flood ∷ ((if is_place n.table n.field n.mode q && is_below n.rows q then sought left (prefix ++ q ∷ []) (after_of n q) given else []) ++ flat_map (entered (enter left) prefix n) later) else [])
       ≤ floods (if b then Flood ∷ flat_map (entered (enter left) prefix n) (places_at n q.piece) else [])
   unfolding floods
-  floods-kind true =
-      let first : List Event = if is_place n.table n.field n.mode q && is_below n.rows q then sought left (prefix ++ q ∷ []) (after_of n q) given else [] in
-      omega (arith, floods-append first (flat_map (entered (enter left) prefix n) later), floods-first (is_place n.table n.field n.mode q && is_below n.rows q) refl)
+  floods-kind true = search (rules, floods-append, floods-first)
   floods-kind false = omega arith
 
 floods-choice : (b : Bool) (xs ys : List Event) → floods xs ≤ floods ys → floods (if b then xs else []) ≤ floods (if b then ys else [])
@@ -85,15 +76,4 @@ unfolding sought enter floods tried
 floods-sought zero prefix n given = omega arith
 floods-sought (suc left) prefix n [] = floods-choice (is_live left n) (tried_in_turn (enter left) prefix n all_pieces) (Tick ∷ tried_in_turn (enter left) prefix n all_pieces) (omega arith)
 floods-sought (suc left) prefix n (q ∷ given) =
-    floods-choice (is_live left n) (kind ++ tried_in_turn (enter left) prefix n (drop (piece_code q.piece) all_pieces)) (Tick ∷ tried_in_turn (enter left) prefix n all_pieces)
-    (omega (
-      arith,
-      floods-append kind (tried_in_turn (enter left) prefix n (drop (piece_code q.piece) all_pieces)),
-      floods-tried_in_turn (enter left) prefix n (drop (piece_code q.piece) all_pieces),
-      floods-tried_in_turn (enter left) prefix n all_pieces,
-      sum_by-last_kinds (λ c. floods (tried (enter left) prefix n c)) q.piece,
-      floods-kind left prefix n q given (floods-sought left (prefix ++ q ∷ []) (after_of n q) given) (may_play n.line q.piece),
-    ))
-  where
-    kind : List Event
-    kind = if may_play n.line q.piece then Flood ∷ ((if is_place n.table n.field n.mode q && is_below n.rows q then sought left (prefix ++ q ∷ []) (after_of n q) given else []) ++ flat_map (entered (enter left) prefix n) (filter (is_above placement_cmp (Some q)) (places_at n q.piece))) else []
+    search (rules, (floods-choice (is_live left n)), floods-append, (floods-tried_in_turn (enter left) prefix n (drop (piece_code q.piece) all_pieces)), (floods-tried_in_turn (enter left) prefix n all_pieces), (sum_by-last_kinds (λ c. floods (tried (enter left) prefix n c)) q.piece), (floods-kind left prefix n q given (floods-sought left (prefix ++ q ∷ []) (after_of n q) given) (may_play n.line q.piece)))

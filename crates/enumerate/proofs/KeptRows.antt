@@ -1,5 +1,5 @@
 -- A placement that removes no row only takes its cells from the empty ones.
-use Rattle.std.proofs.Common.{◌≡◌, ℕ, zero, suc, ◌+◌, ◌-◌, ◌<◌, ◌≤◌, Bool, true, false, not, ◌&&◌, nat_lt, sym, ap, subst, ◌∙◌, ◌⊎◌, inl, inr, arith, rules}
+use Rattle.std.proofs.Common.{◌≡◌, ℕ, zero, suc, ◌+◌, ◌-◌, ◌<◌, ◌≤◌, Bool, true, false, ◌&&◌, nat_lt, subst, arith, rules}
 use Rattle.std.proofs.lemmas.Bool.{cases_Bool, cases_lt, le-ltb}
 use Rattle.std.proofs.Math.Path.{fun_ext}
 use Rattle.lane_board.specs.Field.{Field, difference, rows_below}
@@ -13,18 +13,11 @@ module _ (G : Field) (none : full_below G 23 ≡ 0) where
   rises n = search (rules, cases_Bool, full_below-full, full_below-other)
 
   none-below : (k n : ℕ) → n + k ≡ 23 → full_below G n ≡ 0
-  none-below zero n e =
-      let last : n ≡ 23 = omega (arith, e) in
-      ap (full_below G) last ∙ none
-  none-below (suc k) n e =
-      let next = none-below k (suc n) (omega (arith, e)) in
-      omega (arith, next, rises n)
+  none-below zero n e = search rules
+  none-below (suc k) n e = search (rules, (none-below k (suc n)), (rises n))
 
   not-full : (n : ℕ) → n < 23 → is_full G n ≡ false
-  not-full n below = elim (cases_Bool (is_full G n)) [
-    | inl full ↦ absurd (omega (arith, full_below-full G n full, none-below (23 - suc n) (suc n) (omega (arith, below))))
-    | inr other ↦ other
-  ]
+  not-full n below = search (rules, (cases_Bool (is_full G n)), (full_below-full G n), (none-below (23 - suc n) (suc n)))
 
   all-stay : (x y : ℕ) → y < 23 → without_full_rows G 23 x y ≡ G x y
   all-stay x y below = same_from_both (without_full_rows G 23 x y) (G x y)
@@ -47,9 +40,4 @@ dropped a b p q e = search rules
 pub kept_empties : (F : Field) (q : Placement) (rows : ℕ) → rows ≤ 8 → rows_removed F q ≡ 0 →
     difference (rows_below rows) (together F q) ≡ difference (rows_below rows) (locked F q)
 unfolding difference rows_below locked rows_removed
-kept_empties F q rows low none = fun_ext (λ x. fun_ext (λ y. at x y (cases_lt y rows)))
-  where
-    at : (x y : ℕ) → (y < rows) ⊎ (rows ≤ y)
-        → ((nat_lt x 10 && nat_lt y rows) && not (together F q x y)) ≡ ((nat_lt x 10 && nat_lt y rows) && not (without_full_rows (together F q) 23 x y))
-    at x y (inl below) = ap (λ b. (nat_lt x 10 && nat_lt y rows) && not b) (sym (all-stay (together F q) none x y (omega (arith, below, low))))
-    at x y (inr above) = dropped (nat_lt x 10) (nat_lt y rows) _ _ (le-ltb y rows above)
+kept_empties F q rows low none = search (rules, fun_ext, cases_lt, nat_lt, (all-stay (together F q) none), dropped, le-ltb)

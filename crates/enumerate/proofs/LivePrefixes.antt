@@ -1,5 +1,5 @@
 -- Every prefix of a solution can be played, and leaves a tiling, as each of its prefixes does.
-use Rattle.std.proofs.Common.{◌≡◌, ℕ, ◌+◌, ◌-◌, true, List, [], ◌∷◌, ◌++◌, length, refl, sym, subst, arith, append_assoc, rules}
+use Rattle.std.proofs.Common.{◌≡◌, ℕ, ◌+◌, ◌-◌, true, List, [], ◌∷◌, ◌++◌, length, refl, sym, subst, append_assoc, rules}
 use Rattle.std.specs.Prelude.{Option}
 use Rattle.std.proofs.lemmas.List.{length-append, map-append}
 use Rattle.std.proofs.lemmas.Bool.{and_from}
@@ -36,13 +36,7 @@ tiled-front : (n : Position) (front rest : List Placement) → IsLow n.field n.r
 unfolding stays_tiled after_of
 tiled-front n [] rest low plays permitted = played-tiled n rest low plays permitted
 tiled-front n (q ∷ front) rest low plays permitted =
-    and_from (can_be_tiled (length rest + length (q ∷ front)) n) (stays_tiled (length rest) (after_of n q) front)
-    (subst (λ k. can_be_tiled k n ≡ true) whole (played-tiled n (q ∷ front ++ rest) low plays permitted))
-    (tiled-front (after_of n q) front rest (low-after n q low plays.1 plays.0) plays.2
-    (subst (QueuesPermit n.line) (sym (append_assoc n.line.played (q.piece ∷ []) (pieces_of (front ++ rest)))) permitted))
-  where
-    whole : length (q ∷ front ++ rest) ≡ length rest + length (q ∷ front)
-    whole = omega (arith, length-append (q ∷ front) rest)
+    search (rules, (and_from (can_be_tiled (length rest + length (q ∷ front)) n) (stays_tiled (length rest) (after_of n q) front)), (played-tiled n (q ∷ front ++ rest) low plays permitted), (tiled-front (after_of n q) front rest (low-after n q low plays.1 plays.0) plays.2 (subst (QueuesPermit n.line) (sym (append_assoc n.line.played (q.piece ∷ []) (pieces_of (front ++ rest)))) permitted)), (length-append (q ∷ front) rest))
 
 -- at the root nothing was played
 unplayed : (problem : Problem) (queue : Option (List Piece)) → (line_at problem queue).played ≡ []
@@ -53,9 +47,4 @@ unfolding is_live_prefix can_be_played root_of
 live-front problem queue front rest fit solution =
     let root = root_of problem queue in
     let solved = from-solution problem fit queue (front ++ rest) solution in
-    let permitted : QueuesPermit root.line (pieces_of front ++ pieces_of rest) = subst (QueuesPermit root.line) (map-append (λ q. q.piece) front rest) (subst (λ played. QueuesPermit root.line (played ++ pieces_of (front ++ rest))) (unplayed problem queue) solved.permitted) in
-    and_from (can_be_played root front) (stays_tiled (length rest) root front)
-    (and_from _ (can_stand root.table root.mode root.field root.rows front)
-    ((queues_permit-decides root.line (pieces_of front)).1 (line_permits-front root.line (pieces_of front) (pieces_of rest) permitted))
-    (stands-front root.table root.mode root.field root.rows front rest solved.plays))
-    (tiled-front root front rest (root-low problem fit queue) solved.plays solved.permitted)
+    search (rules, (map-append (λ q. q.piece) front rest), (unplayed problem queue), (and_from (can_be_played root front) (stays_tiled (length rest) root front)), and_from, (queues_permit-decides root.line (pieces_of front)), (line_permits-front root.line (pieces_of front) (pieces_of rest)), (stands-front root.table root.mode root.field root.rows front rest solved.plays), (tiled-front root front rest (root-low problem fit queue) solved.plays solved.permitted))

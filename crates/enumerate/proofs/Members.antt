@@ -1,5 +1,5 @@
 -- The list from a position on has exactly the solutions from there.
-use Rattle.std.proofs.Common.{◌≡◌, ℕ, zero, suc, Bool, true, List, [], ◌∷◌, ◌++◌, length, refl, sym, subst, inl, inr, arith, append_assoc, eq-eqb, rules}
+use Rattle.std.proofs.Common.{◌≡◌, ℕ, zero, suc, true, List, [], ◌∷◌, ◌++◌, length, refl, sym, subst, inl, inr, arith, append_assoc, eq-eqb, rules}
 use Rattle.std.specs.Prelude.{Contains, ◌==◌, if◌then◌else◌}
 use Rattle.std.specs.List.{flat_map}
 use Rattle.std.proofs.lemmas.Bool.{eqb-true, cond_both}
@@ -50,11 +50,7 @@ solved-nil n low permitted none = search (rules, append-nil)
 
 solved-cons : (left : ℕ) (n : Position) (q : Placement) (s : List Placement) → IsPlace n.table n.field n.mode q → is_below n.rows q ≡ true → IsSolved left (after_of n q) s → IsSolved (suc left) n (q ∷ s)
 unfolding after_of
-solved-cons left n q s place below solved = record {
-  long = omega (arith, solved.long);
-  plays = (place, below, solved.plays);
-  permitted = subst (QueuesPermit n.line) (append_assoc n.line.played (q.piece ∷ []) (pieces_of s)) solved.permitted;
-}
+solved-cons left n q s place below solved = search (rules, (append_assoc n.line.played (q.piece ∷ []) (pieces_of s)))
 
 permitted-after : (n : Position) (piece : Piece) (q : Placement) → q.piece ≡ piece → may_play n.line piece ≡ true → QueuesPermit (after_of n q).line (after_of n q).line.played
 unfolding after_of
@@ -84,9 +80,7 @@ sound (suc left) n low permitted s =
 
 pub complete : (left : ℕ) (n : Position) (s : List Placement) → IsLow n.field n.rows → IsSolved left n s → Contains (sols left n) s
 unfolding sols after_of
-complete zero n [] low solved =
-    let P : Bool → Type 0 = λ b. Contains {X = List Placement} (if b then [] ∷ [] else []) [] in
-    subst P (sym (eq-eqb n.rows 0 solved.plays.0)) (Contains-here {A = List Placement} [] [])
+complete zero n [] low solved = search (rules, (eq-eqb n.rows 0 solved.plays.0), Contains-here)
 complete zero n (q ∷ s) low solved = absurd (omega (arith, solved.long))
 complete (suc left) n [] low solved = absurd (omega (arith, solved.long))
 complete (suc left) n (q ∷ s) low solved =

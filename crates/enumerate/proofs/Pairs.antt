@@ -73,10 +73,7 @@ sum_by-same f g (x ∷ xs) each =
 sum_by-filtered : {A : Type 0} (test : A → Bool) (f g : A → ℕ) (xs : List A) → ((x : A) → Contains xs x → test x ≡ true → f x ≡ g x) → ((x : A) → Contains xs x → test x ≡ false → g x ≡ 0) → sum_by f (filter test xs) ≡ sum_by g xs
 sum_by-filtered test f g [] kept dropped = refl
 sum_by-filtered test f g (x ∷ xs) kept dropped =
-    let rest =
-    sum_by-filtered test f g xs (λ y among. kept y (Contains-there x xs y among))
-    (λ y among. dropped y (Contains-there x xs y among)) in
-    search (rules, Contains-there, cases_Bool, filter-true, sum_by-cons, Contains-here, filter-false, rest)
+    search (rules, (sum_by-filtered test f g xs (λ y among. kept y (Contains-there x xs y among)) (λ y among. dropped y (Contains-there x xs y among))), Contains-there, cases_Bool, filter-true, sum_by-cons, Contains-here, filter-false)
 
 leaf-floods : (b : Bool) (prefix : List Placement) → floods ((if b then Found prefix else Tick) ∷ []) ≡ 0
 unfolding floods
@@ -121,8 +118,7 @@ kind-floods left root prefix n at alive below c = elim (cases_Bool (may_play n.l
 -- a prefix that can be played is live where the position after it has a tiling
 live-prefix : (left : ℕ) (root : Position) (prefix : List Placement) (n : Position) → IsAt left root prefix n → can_be_played root prefix ≡ true → is_live_prefix left root prefix ≡ can_be_tiled left n
 unfolding is_live_prefix stays_tiled
-live-prefix left root prefix n at played =
-    ap (λ b. b && stays_tiled left root prefix) played ∙ ap (stays_tiled left root) (sym (append-nil prefix)) ∙ at.tiled left [] (omega arith)
+live-prefix left root prefix n at played = search (rules, (append-nil prefix), (at.tiled left []))
 
 pub floods-enter : (left : ℕ) (root : Position) (prefix : List Placement) (n : Position) → IsAt left root prefix n → can_be_played root prefix ≡ true → floods (enter left prefix n) ≡ work_from left root prefix
 unfolding enter work_from floods is_live
@@ -154,16 +150,5 @@ none_tried left root c e = ap floods (cond-false (may_play root.line c) _ [] e)
 pub floods-begun : (left : ℕ) (root : Position) → root.line.played ≡ [] → floods (begun left root) ≡ work_from left root []
 unfolding begun enter floods is_live
 floods-begun zero root none = unfold work_from in refl
-floods-begun (suc left) root none = elim (cases_Bool (can_be_played root [])) [
-  | inl played ↦ sym (floods-tick (is_live left root) (tried_in_turn (enter left) [] root all_pieces)) ∙ floods-enter (suc left) root [] root (root-at (suc left) root none) played
-  | inr unplayed ↦ nothing (can_be_tiled (suc left) root) (floods-tried_in_turn (enter left) [] root all_pieces
-      ∙ sum_by-same (λ c. floods (tried (enter left) [] root c)) (λ c. 0) all_pieces (λ c _. none_tried left root c (root-dead root none unplayed c))
-      ∙ no_sum) ∙ sym (work-unplayed (suc left) root [] unplayed)
-]
-  where
-    no_sum : sum_by (λ c. 0) all_pieces ≡ 0
-    no_sum = refl
-
-    nothing : (b : Bool) → floods (tried_in_turn (enter left) [] root all_pieces) ≡ 0 → floods (if b then tried_in_turn (enter left) [] root all_pieces else []) ≡ 0
-    nothing true none = none
-    nothing false none = refl
+floods-begun (suc left) root none =
+    search (rules, (cases_Bool (can_be_played root [])), (floods-tick (is_live left root) (tried_in_turn (enter left) [] root all_pieces)), (floods-enter (suc left) root [] root (root-at (suc left) root none)), (floods-tried_in_turn (enter left) [] root all_pieces), (sum_by-same (λ c. floods (tried (enter left) [] root c)) (λ c. 0) all_pieces), (none_tried left root), (root-dead root none), (work-unplayed (suc left) root []))

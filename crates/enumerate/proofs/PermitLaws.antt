@@ -9,8 +9,7 @@ use Rattle.hold_queue.specs.QueueSet.{QueuesInPlay, QueuesPermit}
 
 permits-front : (hold : Hold) (queue : List Piece) (held : Option Piece) (front rest : List Piece) → Permits hold queue held (front ++ rest) → Permits hold queue held front
 permits-front hold queue held [] rest permitted = tt
-permits-front hold queue held (piece ∷ front) rest permitted =
-    (permitted.0, permitted.1, permitted.2, permits-front hold permitted.0 permitted.1 front rest permitted.3)
+permits-front hold queue held (piece ∷ front) rest permitted = search (rules, (permits-front hold permitted.0 permitted.1 front rest permitted.3))
 
 pub line_permits-front : (line : QueuesInPlay) (front rest : List Piece) → QueuesPermit line (front ++ rest) → QueuesPermit line front
 line_permits-front line front rest permitted = (permitted.0, permitted.1, permits-front line.hold permitted.0 line.held front rest permitted.2)

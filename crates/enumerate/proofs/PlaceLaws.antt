@@ -21,10 +21,7 @@ use Rattle.enumerate.specs.Standing.{may_lock}
 pub place-lockable : (table : Table) (F : Field) (mode : DropMode) (piece : Piece) (q : Placement) → q.piece ≡ piece → IsPlace table F mode q → may_lock F piece q ≡ true
 unfolding may_lock
 place-lockable table F mode piece q kind place =
-    let free = place-free table F mode q place in
-    and_from (piece_code q.piece == piece_code piece) (is_canonical_inside q && is_free F q) (eq-eqb (piece_code q.piece) (piece_code piece) (ap piece_code kind))
-    (and_from (is_canonical_inside q) (is_free F q)
-    (and_from (is_canonical q) (is_inside_of q) (is_canonical-from q place.canonical) (free_inside F q free)) free)
+    search (rules, (and_from (piece_code q.piece == piece_code piece) (is_canonical_inside q && is_free F q) (eq-eqb (piece_code q.piece) (piece_code piece) (ap piece_code kind)) (and_from (is_canonical_inside q) (is_free F q) (and_from (is_canonical q) (is_inside_of q) (is_canonical-from q place.canonical) (free_inside F q (place-free table F mode q place))) (place-free table F mode q place))))
 
 -- what may lock
 module _ (F : Field) (piece : Piece) (q : Placement) (lockable : may_lock F piece q ≡ true) where

@@ -37,16 +37,7 @@ filter-prefixed : (q : Placement) (given : List Placement) (l : List (List Place
 filter-prefixed q given [] = refl
 filter-prefixed q given (s ∷ l) =
     let same : past (q ∷ given) (q ∷ s) ≡ past given s = ap (λ r. is_lt (ordering_then r (sequence_cmp given s))) (tied_itself placement_cmp-total q) in
-    elim (cases_Bool (past given s)) [
-      | inl above ↦
-          filter-true (past (q ∷ given)) (q ∷ s) (map (λ s. q ∷ s) l) (same ∙ above)
-          ∙ ap (λ l. (q ∷ s) ∷ l) (filter-prefixed q given l)
-          ∙ sym (ap (map (λ s. q ∷ s)) (filter-true (past given) s l above))
-      | inr under ↦
-          filter-false (past (q ∷ given)) (q ∷ s) (map (λ s. q ∷ s) l) (same ∙ under)
-          ∙ filter-prefixed q given l
-          ∙ sym (ap (map (λ s. q ∷ s)) (filter-false (past given) s l under))
-    ]
+    search (rules, (cases_Bool (past given s)), (filter-true (past (q ∷ given)) (q ∷ s) (map (λ s. q ∷ s) l)), (filter-prefixed q given l), (filter-true (past given) s l), (filter-false (past (q ∷ given)) (q ∷ s) (map (λ s. q ∷ s) l)), (filter-false (past given) s l))
 
 -- the first placement decides
 past-later : (p q : Placement) (given s : List Placement) → placement_cmp p q ≡ Less → past (p ∷ given) (q ∷ s) ≡ true
@@ -177,27 +168,21 @@ module _ (more : Sequences) (n : Position) (p : Placement) (given : List Placeme
       let found = Contains-from_flat_map (of_kind more n) pieces s among in
       let first = in_kind more n found.0 s found.2 in
       let before : piece_code first.first.piece < piece_code p.piece = subst (λ c. piece_code c < piece_code p.piece) (sym first.listed.kind) (each found.0 found.1) in
-      subst (λ s. past (p ∷ given) s ≡ false) first.in_place.is
-      (past-earlier p first.first given first.in_place.rest (turned p first.first (placement_cmp-piece first.first p before))))
+      search (rules, (past-earlier p first.first given first.in_place.rest (turned p first.first (placement_cmp-piece first.first p before)))))
 
   kinds-kept : (pieces : List Piece) → ((c : Piece) → Contains pieces c → piece_code p.piece < piece_code c) → filter (past (p ∷ given)) (flat_map (of_kind more n) pieces) ≡ flat_map (of_kind more n) pieces
   kinds-kept pieces each = filter-each (past (p ∷ given)) (flat_map (of_kind more n) pieces) (λ s among.
       let found = Contains-from_flat_map (of_kind more n) pieces s among in
       let first = in_kind more n found.0 s found.2 in
       let after : piece_code p.piece < piece_code first.first.piece = subst (λ c. piece_code p.piece < piece_code c) (sym first.listed.kind) (each found.0 found.1) in
-      subst (λ s. past (p ∷ given) s ≡ true) first.in_place.is
-      (past-later p first.first given first.in_place.rest (placement_cmp-piece p first.first after)))
+      search (rules, (past-later p first.first given first.in_place.rest (placement_cmp-piece p first.first after))))
 
   -- what the kind of the first placement has above the sequence
   kind-past : filter (past (p ∷ given)) (of_kind more n p.piece)
       ≡ (if may_play n.line p.piece then following more n p given (is_place n.table n.field n.mode p) ++ flat_map (of_place more n) (filter (is_above placement_cmp (Some p)) (places_at n p.piece)) else [])
   unfolding of_kind
-  kind-past = at (may_play n.line p.piece)
-    where
-      at : (b : Bool) → filter (past (p ∷ given)) (if b then flat_map (of_place more n) (places_at n p.piece) else [])
-          ≡ (if b then following more n p given (is_place n.table n.field n.mode p) ++ flat_map (of_place more n) (filter (is_above placement_cmp (Some p)) (places_at n p.piece)) else [])
-      at true = places-past more n p given (places_at n p.piece) (places_at-rising n p.piece) (is_place n.table n.field n.mode p) (placed-there n p) (there-placed n p)
-      at false = refl
+  kind-past =
+      search (rules, (places-past more n p given (places_at n p.piece) (places_at-rising n p.piece) (is_place n.table n.field n.mode p) (placed-there n p) (there-placed n p)))
 
   pub all-past : filter (past (p ∷ given)) (flat_map (of_kind more n) all_pieces)
       ≡ (if may_play n.line p.piece then following more n p given (is_place n.table n.field n.mode p) ++ flat_map (of_place more n) (filter (is_above placement_cmp (Some p)) (places_at n p.piece)) else [])

@@ -1,5 +1,5 @@
 -- What a search holds: its first frame, and the list of what is still to come.
-use Rattle.std.proofs.Common.{◌≡◌, ◌⊎◌, inl, inr, lt-ltb, ℕ, zero, suc, ◌+◌, ◌-◌, ◌<◌, ◌≤◌, Bool, true, false, ◌&&◌, List, [], ◌∷◌, length, get_or, set, take, refl, sym, ap, subst, ◌∙◌, arith, rules}
+use Rattle.std.proofs.Common.{◌≡◌, ◌⊎◌, lt-ltb, ℕ, zero, suc, ◌+◌, ◌-◌, ◌<◌, ◌≤◌, Bool, true, false, ◌&&◌, List, [], ◌∷◌, length, get_or, set, take, refl, sym, ap, subst, ◌∙◌, arith, rules}
 use Rattle.std.specs.Prelude.{Option, Some, None, nat_le, nat_lt}
 use Rattle.std.proofs.lemmas.Bool.{le-leb, cond-false, and_from}
 use Rattle.std.proofs.lemmas.List.{get_or-set_same, take_more_set}
@@ -64,14 +64,10 @@ module _ (problem : Problem) (queue : Option (List Piece)) (f : Frame) (position
 
   pub whole-nothing : (nat_lt 0 (needed_of problem) && is_live f.setup.left here) ≡ false → (after : Option (List Placement)) → whole_from problem queue after ≡ []
   unfolding whole_from
-  whole-nothing dead None = elim (dead-part (needed_of problem) (is_live f.setup.left here) dead) [
-    | inl none ↦ ap (λ k. begun k (root_of problem queue)) none ∙ begun-zero (root_of problem queue)
-    | inr both ↦ ap (λ k. begun k (root_of problem queue)) both.0 ∙ begun-dead (needed_of problem - 1) (root_of problem queue) ((λ i. is_live (sym left i) (sym position i)) ∙ both.1)
-  ]
-  whole-nothing dead (Some given) = elim (dead-part (needed_of problem) (is_live f.setup.left here) dead) [
-    | inl none ↦ ap (λ k. sought k [] (root_of problem queue) given) none ∙ sought-zero (root_of problem queue) given
-    | inr both ↦ ap (λ k. sought k [] (root_of problem queue) given) both.0 ∙ sought-dead (needed_of problem - 1) (root_of problem queue) given ((λ i. is_live (sym left i) (sym position i)) ∙ both.1)
-  ]
+  whole-nothing dead None =
+      search (rules, (dead-part (needed_of problem) (is_live f.setup.left here) dead), (begun-zero (root_of problem queue)), (begun-dead (needed_of problem - 1) (root_of problem queue)))
+  whole-nothing dead (Some given) =
+      search (rules, (dead-part (needed_of problem) (is_live f.setup.left here) dead), (sought-zero (root_of problem queue) given), (sought-dead (needed_of problem - 1) (root_of problem queue) given))
 
   module _ (live : (nat_lt 0 (needed_of problem) && is_live f.setup.left here) ≡ true) where
     depth : needed_of problem ≡ suc f.setup.left
@@ -120,10 +116,7 @@ first-read frames f d some = get_or-set_same frames 0 f d some
 pub sought-skips : (table : Table) (mode : DropMode) (frames : List Frame) (f : Frame) (given given' : List Placement) (whole rest : List Event) (before now : ℕ) → 0 < length frames → given' ≡ given →
     whole ≡ sought (suc f.setup.left) [] (position_of table mode f.setup) given →
     ((d : Frame) → SkipsTo (sought (suc (get_or (set frames 0 f) 0 d).setup.left) [] (position_of table mode (get_or (set frames 0 f) 0 d).setup) given') rest before now) → SkipsTo whole rest before now
-sought-skips table mode frames f given given' whole rest before now some same e skips =
-    subst (λ w. SkipsTo w rest before now) (sym e)
-    (subst (λ s. SkipsTo (sought (suc f.setup.left) [] (position_of table mode f.setup) s) rest before now) same
-    (subst (λ g. SkipsTo (sought (suc g.setup.left) [] (position_of table mode g.setup) given') rest before now) (first-read frames f f some) (skips f)))
+sought-skips table mode frames f given given' whole rest before now some same e skips = search (rules, (first-read frames f f some))
 
 -- by equal tables the same is passed
 pub skips-by : (mode : DropMode) (frames : List Frame) (given : List Placement) (depth : ℕ) (used : List Frame) (before now : ℕ) (table other : Table) → table ≡ other →

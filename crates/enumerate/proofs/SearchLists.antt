@@ -1,5 +1,5 @@
 -- The list of what a search has still to give.
-use Rattle.std.proofs.Common.{◌≡◌, ℕ, zero, suc, ◌≤◌, Bool, List, [], ◌∷◌, refl, sym, ap, subst, ◌∙◌, inl, inr, arith, rules}
+use Rattle.std.proofs.Common.{◌≡◌, ℕ, zero, suc, ◌≤◌, Bool, List, [], ◌∷◌, refl, sym, ap, subst, ◌∙◌, arith, rules}
 use Rattle.std.specs.Prelude.{Option, Some, None, filter, find, ◌==◌}
 use Rattle.std.proofs.lemmas.Bool.{cases_Bool, cond-false}
 use Rattle.srs.specs.declared.piece.Piece.{Piece}
@@ -58,10 +58,8 @@ tails e = cc
 -- what a filter begins with is what a search finds
 pub head-found : {A : Type 0} (test : A → Bool) (xs : List A) (y : A) (ys : List A) → filter test xs ≡ y ∷ ys → find test xs ≡ Some y
 head-found test [] y ys e = cc
-head-found test (x ∷ xs) y ys e = elim (cases_Bool (test x)) [
-  | inl kept ↦ find-true test x xs kept ∙ ap Some (heads (sym (filter-true test x xs kept) ∙ e))
-  | inr dropped ↦ find-false test x xs dropped ∙ head-found test xs y ys (sym (filter-false test x xs dropped) ∙ e)
-]
+head-found test (x ∷ xs) y ys e =
+    search (rules, (cases_Bool (test x)), (find-true test x xs), heads, (filter-true test x xs), (find-false test x xs), (head-found test xs y ys), (filter-false test x xs))
 
 rows-left : (n : Position) → (n.rows ≡ 0 → ⊥) → sols zero n ≡ []
 unfolding sols
@@ -97,10 +95,7 @@ module _ (problem : Problem) (fit : IsFit problem) (queue : Option (List Piece))
   }
 
   sols-begun : (k : ℕ) → sols k (root_of problem queue) ≡ found (begun k (root_of problem queue))
-  sols-begun zero = sols-none ∙ sym (begun-none (root_of problem queue))
-    where
-      sols-none : sols zero (root_of problem queue) ≡ []
-      sols-none = rows-left (root_of problem queue) no-rows
+  sols-begun zero = search (rules, (begun-none (root_of problem queue)), (rows-left (root_of problem queue) no-rows))
   sols-begun (suc k) = sym (found-begun k (root_of problem queue))
 
   -- the whole search gives the rising list of all solutions
@@ -125,10 +120,7 @@ module _ (problem : Problem) (fit : IsFit problem) (queue : Option (List Piece))
   pub listed-next : (bound : Option (List Placement)) (s : List Placement) (rest : List (List Placement)) → s ∷ rest ≡ filter (is_above sequence_cmp bound) (found (whole_from problem queue None)) →
       rest ≡ filter (is_above sequence_cmp (Some s)) (found (whole_from problem queue None))
   listed-next bound s rest e =
-      let first = head-found (is_above sequence_cmp bound) (found (whole_from problem queue None)) s rest (sym e) in
-      let split : s ∷ rest ≡ s ∷ filter (is_above sequence_cmp (Some s)) (found (whole_from problem queue None)) =
-      e ∙ filter_above-next sequence_cmp sequence_cmp-total bound (found (whole_from problem queue None)) s whole-list.rising first in
-      tails split
+      search (rules, (filter_above-next sequence_cmp sequence_cmp-total bound (found (whole_from problem queue None)) s whole-list.rising (head-found (is_above sequence_cmp bound) (found (whole_from problem queue None)) s rest (sym e))), tails)
 
 -- ---- floods
 

@@ -74,8 +74,7 @@ module _ (table : Table) (mode : DropMode) (frames walked : List Frame) (top : �
       room = subst (λ l. has_room 0 l ≡ true) (sym written) room-new;
       skips = λ given d.
           subst (λ l. SkipsTo (sought_at table mode frames top (q ∷ given) d) l before now) (sym (ap (stacked table mode []) written ∙ stacked-last table mode [] below new))
-          (subst (λ f. SkipsTo (sought (suc f.setup.left) (path_of below) (position_of table mode f.setup) (q ∷ given) ++ stacked table mode [] below) (events_of table mode (path_of below) new ++ stacked table mode [] below) before now) (old-there d)
-          (skips-before (sought (suc old.setup.left) (path_of below) (position_of table mode old.setup) (q ∷ given)) (events_of table mode (path_of below) new) (stacked table mode [] below) before now (skips (path_of below) given)));
+          (search (rules, (old-there d), (skips-before (sought (suc old.setup.left) (path_of below) (position_of table mode old.setup) (q ∷ given)) (events_of table mode (path_of below) new) (stacked table mode [] below) before now (skips (path_of below) given))));
     }
 
     module _ (e : Frame) (fewer : (get_or behind 0 e).setup.left + 1 ≡ old.setup.left) (some : 0 < length behind) where
@@ -100,10 +99,7 @@ module _ (table : Table) (mode : DropMode) (frames walked : List Frame) (top : �
       }
         where
           shape : (given : List Placement) (d : Frame) → (sought (suc child.setup.left) (path_of below ++ entered_placement new) (position_of table mode child.setup) given ++ events_of table mode (path_of below) new) ++ stacked table mode [] below ≡ sought_at table mode more (top + 1) given d
-          shape given d =
-              append_assoc (sought (suc child.setup.left) (path_of below ++ entered_placement new) (position_of table mode child.setup) given) (events_of table mode (path_of below) new) (stacked table mode [] below)
-              ∙ (λ i. sought (suc (child-there d i).setup.left) (sym (path-last below new) i) (position_of table mode (child-there d i).setup) given ++ sym (stacked-last table mode [] below new) i)
-              ∙ sym (λ i. sought (suc (get_or more (top + 1) d).setup.left) (path_of (written i)) (position_of table mode (get_or more (top + 1) d).setup) given ++ stacked table mode [] (written i))
+          shape given d = search (rules, (append_assoc (sought (suc child.setup.left) (path_of below ++ entered_placement new) (position_of table mode child.setup) given) (events_of table mode (path_of below) new) (stacked table mode [] below)), (child-there d), (path-last below new), (stacked-last table mode [] below new), written)
 
     pub skipped : length behind + (top + 1) ≡ 20 → (entered : Bool) → Skips table mode old new q (get_or behind 0 new) entered before now → IsSought table mode frames (set walked top new ++ behind) top q entered before now
     skipped size false skips = there skips
@@ -116,9 +112,7 @@ fresh-events table mode prefix frame fresh = search (rules, cond-true)
 
 pub at-end : (table : Table) (mode : DropMode) (frames : List Frame) (top : ℕ) (d : Frame) → top < length frames → IsFresh table mode (get_or frames top d) → sought_at table mode frames top [] d ≡ stacked table mode [] (take (top + 1) frames)
 at-end table mode frames top d within fresh =
-    ap (λ l. l ++ stacked table mode [] (take top frames)) (fresh-events table mode (path_of (take top frames)) (get_or frames top d) fresh)
-    ∙ sym (stacked-last table mode [] (take top frames) (get_or frames top d))
-    ∙ ap (stacked table mode []) (sym (take-top frames top d within))
+    search (rules, (fresh-events table mode (path_of (take top frames)) (get_or frames top d) fresh), (stacked-last table mode [] (take top frames) (get_or frames top d)), (take-top frames top d within))
 
 -- at the start
 pub at-start : (table : Table) (mode : DropMode) (frames : List Frame) (given : List Placement) (d : Frame) → sought_at table mode frames 0 given d ≡ sought (suc (get_or frames 0 d).setup.left) [] (position_of table mode (get_or frames 0 d).setup) given

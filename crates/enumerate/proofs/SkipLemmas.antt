@@ -33,7 +33,7 @@ use Rattle.enumerate.specs.Setups.{position_of}
 use Rattle.enumerate.specs.Turns.{Enters, EntersAs, IsChild}
 use Rattle.enumerate.specs.Seeks.{SkipsTo}
 use Rattle.enumerate.proofs.FloodCounts.{floods-sought}
-use Rattle.enumerate.proofs.Resumed.{past, placed-there, there-placed}
+use Rattle.enumerate.proofs.Resumed.{placed-there, there-placed}
 use Rattle.enumerate.proofs.Solutions.{sols}
 use Rattle.enumerate.proofs.Sought.{found-sought}
 use Rattle.enumerate.proofs.TurnLemmas.{entered-below, filter-both, filter-same}
@@ -48,8 +48,7 @@ pub places_left-above : (places : Option LowPlaces) (q : Placement) → places_l
 unfolding places_left
 places_left-above None q = refl
 places_left-above (Some places) q =
-    filter-both (holds places) (is_above placement_cmp (Some q)) (placements_of (piece_of places))
-    ∙ ap (filter (is_above placement_cmp (Some q))) (filter-same (holds places) (λ p. holds places p && true) (placements_of (piece_of places)) (λ p _. sym (and-true (holds places p))))
+    search (rules, (filter-both (holds places) (is_above placement_cmp (Some q)) (placements_of (piece_of places))), (filter-same (holds places) (λ p. holds places p && true) (placements_of (piece_of places))), and-true)
 
 -- the order of two tests does not matter
 filters-swap : (a b : Placement → Bool) (qs : List Placement) → filter a (filter b qs) ≡ filter b (filter a qs)
@@ -147,14 +146,7 @@ module _ (table : Table) (mode : DropMode) (old new : Frame) (same : new.setup �
         SkipsTo (sought (suc old.setup.left) prefix here (q ∷ given)) (events_of table mode prefix new) before now
     unfolding found floods
     skips-dead before now steps dead prefix given =
-        let e = floods-kind prefix given in
-        let joined = floods-append (first prefix given) (events_of table mode prefix new) in
-        let none = dead prefix given in
-        record {
-          same = ap found e ∙ found-append (first prefix given) (events_of table mode prefix new) ∙ ap (λ l. l ++ found (events_of table mode prefix new)) none.0;
-          counted = omega (arith, ap floods e, joined, none.1, steps);
-          fewer = omega (arith, ap floods e, joined);
-        }
+        search (rules, (floods-kind prefix given), (found-append (first prefix given) (events_of table mode prefix new)), (floods-append (first prefix given) (events_of table mode prefix new)))
 
 prefixed-empty : (prefix : List Placement) (l : List (List Placement)) → prefixed prefix l ≡ [] → l ≡ []
 unfolding prefixed
@@ -166,10 +158,7 @@ prefixed-empty prefix (s ∷ l) e = cc
 none-dead : (left : ℕ) (prefix : List Placement) (n : Position) (given : List Placement) → found (enter left prefix n) ≡ [] → floods (enter left prefix n) ≡ 0 → (found (sought left prefix n given) ≡ []) × (floods (sought left prefix n given) ≡ 0)
 unfolding prefixed
 none-dead left prefix n given finds makes =
-    let none : sols left n ≡ [] = prefixed-empty prefix (sols left n) (sym ((finds-enter left).same prefix n) ∙ finds) in (
-      found-sought left prefix n given ∙ ap (λ l. prefixed prefix (filter (past given) l)) none,
-      omega (arith, floods-sought left prefix n given, makes),
-    )
+    search (rules, (prefixed-empty prefix (sols left n) (sym ((finds-enter left).same prefix n) ∙ finds)), (found-sought left prefix n given), (floods-sought left prefix n given))
 
 full-dead : (left : ℕ) (prefix s : List Placement) (n : Position) (given : List Placement) → enter left prefix n ≡ Found s ∷ [] → (found (sought left prefix n given) ≡ []) × (floods (sought left prefix n given) ≡ 0)
 unfolding sought found floods enter
@@ -219,13 +208,8 @@ module _ (n : Position) (q : Placement) (l : List Placement) (e : l ≡ filter (
   held-below is = (kept is).1
 
   pub unheld-place : held ≡ false → (is_place n.table n.field n.mode q && is_below n.rows q) ≡ false
-  unheld-place is = elim (cases_Bool (is_place n.table n.field n.mode q && is_below n.rows q)) [
-    | inl both ↦
-        let parts = and_parts (is_place n.table n.field n.mode q) (is_below n.rows q) both in
-        let yes : held ≡ true = answer.1 (subst (λ l. Contains l q) (sym e) (Contains-filter (is_below n.rows) (places_at n q.piece) q (placed-there n q parts.0) parts.1)) in
-        cc
-    | inr unplaced ↦ unplaced
-  ]
+  unheld-place is =
+      search (rules, (cases_Bool (is_place n.table n.field n.mode q && is_below n.rows q)), (Contains-filter (is_below n.rows) (places_at n q.piece) q), (placed-there n q), (and_parts (is_place n.table n.field n.mode q) (is_below n.rows q)))
 
 -- what entering comes to where there is no frame after the placement
 pub dead-result : (table : Table) (mode : DropMode) (old new : Setup) (same : new ≡ old) (q : Placement) (child : Frame) (result : Turn) → Enters new q child result → (result ≡ Entered → ⊥) → (b : Bool) → (prefix given : List Placement) →

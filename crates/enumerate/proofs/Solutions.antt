@@ -1,5 +1,5 @@
 -- The solutions from a position on: their list rises, and has each of them.
-use Rattle.std.proofs.Common.{◌≡◌, ℕ, zero, suc, ◌<◌, true, List, [], ◌∷◌, map, sym, subst, ◌∙◌, rules}
+use Rattle.std.proofs.Common.{◌≡◌, ℕ, zero, suc, true, List, [], ◌∷◌, map, sym, subst, ◌∙◌, rules}
 use Rattle.std.specs.Prelude.{Contains, ◌==◌, if◌then◌else◌}
 use Rattle.std.specs.List.{flat_map}
 use Rattle.std.specs.List.Sorted.{IsStrictlySortedBy}
@@ -48,8 +48,7 @@ in_place S n q s =
 
 pub to_place : (S : Sequences) (n : Position) (q : Placement) (s : List Placement) → is_below n.rows q ≡ true → Contains (S (after_of n q)) s → Contains (of_place S n q) (q ∷ s)
 unfolding of_place
-to_place S n q s below among =
-    subst (λ b. Contains (if b then map (λ s. q ∷ s) (S (after_of n q)) else []) (q ∷ s)) (sym below) (Contains-map (λ s. q ∷ s) (S (after_of n q)) s among)
+to_place S n q s below among = search (rules, (Contains-map (λ s. q ∷ s) (S (after_of n q)) s among))
 
 -- a sequence begins with a place of a kind that may be played
 pub record InKind (S : Sequences) (n : Position) (piece : Piece) (s : List Placement) : Type 0 where
@@ -72,10 +71,7 @@ in_kind S n piece s =
 pub to_kind : (S : Sequences) (n : Position) (q : Placement) (s : List Placement) → may_play n.line q.piece ≡ true → IsCanonicalInside q.piece q → is_place n.table n.field n.mode q ≡ true → Contains (of_place S n q) s → Contains (of_kind S n q.piece) s
 unfolding of_kind places_at
 to_kind S n q s played listed is_one among =
-    subst (λ b. Contains (if b then flat_map (of_place S n) (places_at n q.piece) else []) s) (sym played)
-    (Contains-flat_map (of_place S n) (places_at n q.piece) q s
-    (Contains-filter (is_place n.table n.field n.mode) (placements_of q.piece) q (((placements_of-list q.piece).members q).1 listed) is_one)
-    among)
+    search (rules, (Contains-flat_map (of_place S n) (places_at n q.piece) q s (Contains-filter (is_place n.table n.field n.mode) (placements_of q.piece) q (((placements_of-list q.piece).members q).1 listed) is_one) among))
 
 -- ---- they rise
 
@@ -108,13 +104,7 @@ module _ (S : Sequences) (rises : (n : Position) → Rises (S n)) (n : Position)
 
 pub earlier_kind : (S : Sequences) (n : Position) (p q : Piece) → piece_cmp p q ≡ Less → (x y : List Placement) → Contains (of_kind S n p) x → Contains (of_kind S n q) y → sequence_cmp x y ≡ Less
 earlier_kind S n p q e x y in_p in_q =
-    let v = in_kind S n p x in_p in
-    let w = in_kind S n q y in_q in
-    let codes : piece_code v.first.piece < piece_code w.first.piece =
-    subst (λ c. piece_code c < piece_code w.first.piece) (sym v.listed.kind) (subst (λ c. piece_code p < piece_code c) (sym w.listed.kind) (ranked (piece_code p) (piece_code q) Less (sym e))) in
-    subst (λ x. sequence_cmp x y ≡ Less) v.in_place.is
-    (subst (λ y. sequence_cmp (v.first ∷ v.in_place.rest) y ≡ Less) w.in_place.is
-    (sequence_cmp-first v.first w.first v.in_place.rest w.in_place.rest (placement_cmp-piece v.first w.first codes)))
+    search (rules, (in_kind S n p x in_p), (in_kind S n q y in_q), (ranked (piece_code p) (piece_code q) Less (sym e)), (sequence_cmp-first (in_kind S n p x in_p).first (in_kind S n q y in_q).first (in_kind S n p x in_p).in_place.rest (in_kind S n q y in_q).in_place.rest), (placement_cmp-piece (in_kind S n p x in_p).first (in_kind S n q y in_q).first))
 
 pub pieces-rising : IsStrictlySortedBy piece_cmp all_pieces
 unfolding IsStrictlySortedBy
@@ -122,8 +112,7 @@ pieces-rising = search rules
 
 pub sols-rising : (left : ℕ) (n : Position) → Rises (sols left n)
 unfolding sols
-sols-rising zero n =
-    cond_both (n.rows == 0) ([] ∷ []) [] Rises (λ _. rising-cons sequence_cmp [] [] (λ y among. absurd (Contains-none y among)) (rising-none sequence_cmp)) (λ _. rising-none sequence_cmp)
+sols-rising zero n = search (rules, (cond_both (n.rows == 0) ([] ∷ []) [] Rises), (rising-cons sequence_cmp [] []), Contains-none, (rising-none sequence_cmp))
 sols-rising (suc left) n =
     cond_both (is_live left n) (flat_map (of_kind (sols left) n) all_pieces) [] Rises
     (λ _. rising-flat_map piece_cmp sequence_cmp (of_kind (sols left) n) all_pieces pieces-rising (of_kind-rising (sols left) (sols-rising left) n) (earlier_kind (sols left) n))

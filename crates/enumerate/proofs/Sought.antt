@@ -44,10 +44,7 @@ module _ (left : ℕ) (prefix : List Placement) (n : Position) (q : Placement) (
   found-kind : (b : Bool) → found (if b then Flood ∷ ((if is_place n.table n.field n.mode q && is_below n.rows q then sought left (prefix ++ q ∷ []) (after_of n q) given else []) ++ flat_map (entered (enter left) prefix n) later_places) else [])
       ≡ prefixed prefix (if b then following (sols left) n q given (is_place n.table n.field n.mode q) ++ flat_map (of_place (sols left) n) later_places else [])
   unfolding found prefixed
-  found-kind true =
-      found-append (if is_place n.table n.field n.mode q && is_below n.rows q then sought left (prefix ++ q ∷ []) (after_of n q) given else []) (flat_map (entered (enter left) prefix n) later_places)
-      ∙ (λ i. found-first (is_place n.table n.field n.mode q) i ++ found-places (enter left) (sols left) (finds-enter left) prefix n later_places i)
-      ∙ sym (prefixed-append prefix (following (sols left) n q given (is_place n.table n.field n.mode q)) (flat_map (of_place (sols left) n) later_places))
+  found-kind true = search (rules, found-append, found-first, found-places, finds-enter, prefixed-append)
   found-kind false = refl
 
 pub found-sought : (left : ℕ) (prefix : List Placement) (n : Position) (given : List Placement) → found (sought left prefix n given) ≡ prefixed prefix (filter (past given) (sols left n))

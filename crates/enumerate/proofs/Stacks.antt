@@ -22,9 +22,7 @@ pub stacked-last : (table : Table) (mode : DropMode) (prefix : List Placement) (
 unfolding stacked path_of
 stacked-last table mode prefix [] frame = sym (append-nil (events_of table mode prefix frame)) ∙ ap (λ p. events_of table mode p frame ++ []) (sym (append-nil prefix))
 stacked-last table mode prefix (f ∷ frames) frame =
-    ap (λ l. l ++ events_of table mode prefix f) (stacked-last table mode (prefix ++ entered_placement f) frames frame)
-    ∙ append_assoc (events_of table mode ((prefix ++ entered_placement f) ++ path_of frames) frame) (stacked table mode (prefix ++ entered_placement f) frames) (events_of table mode prefix f)
-    ∙ ap (λ p. events_of table mode p frame ++ (stacked table mode (prefix ++ entered_placement f) frames ++ events_of table mode prefix f)) (append_assoc prefix (entered_placement f) (path_of frames))
+    search (rules, (stacked-last table mode (prefix ++ entered_placement f) frames frame), (append_assoc (events_of table mode ((prefix ++ entered_placement f) ++ path_of frames) frame) (stacked table mode (prefix ++ entered_placement f) frames) (events_of table mode prefix f)), (append_assoc prefix (entered_placement f) (path_of frames)))
 
 pub path-last : (frames : List Frame) (frame : Frame) → path_of (frames ++ frame ∷ []) ≡ path_of frames ++ entered_placement frame
 unfolding path_of
@@ -59,52 +57,26 @@ module _ (table : Table) (mode : DropMode) (fs : List Frame) (old new : Frame) (
 
   pub turn-passed : (before now : ℕ) → GoesAs table mode old (λ prefix. Tick ∷ events_of table mode prefix new) → now ≡ before → IsTurn table mode (fs ++ old ∷ []) (fs ++ new ∷ []) before now false
   unfolding found floods
-  turn-passed before now goes steps =
-      let e : stacked table mode [] (fs ++ old ∷ []) ≡ Tick ∷ stacked table mode [] (fs ++ new ∷ []) = old-events (λ prefix. Tick ∷ events_of table mode prefix new) goes ∙ ap (λ l. Tick ∷ l) (sym new-events) in
-      record { room = room-new; finds = ap found e; counted = omega (arith, ap floods e, steps); fewer = omega (arith, ap floods e); shorter = omega (arith, ap length e) }
+  turn-passed before now goes steps = search (rules, (old-events (λ prefix. Tick ∷ events_of table mode prefix new) goes), new-events, room-new)
 
   pub turn-flooded : (before now : ℕ) → GoesAs table mode old (λ prefix. Flood ∷ events_of table mode prefix new) → now ≡ before + 1 → IsTurn table mode (fs ++ old ∷ []) (fs ++ new ∷ []) before now false
   unfolding found floods
-  turn-flooded before now goes steps =
-      let e : stacked table mode [] (fs ++ old ∷ []) ≡ Flood ∷ stacked table mode [] (fs ++ new ∷ []) = old-events (λ prefix. Flood ∷ events_of table mode prefix new) goes ∙ ap (λ l. Flood ∷ l) (sym new-events) in
-      record { room = room-new; finds = ap found e; counted = omega (arith, ap floods e, steps); fewer = omega (arith, ap floods e); shorter = omega (arith, ap length e) }
+  turn-flooded before now goes steps = search (rules, (old-events (λ prefix. Flood ∷ events_of table mode prefix new) goes), new-events, room-new)
 
   pub turn-full : (before now : ℕ) → GoesAs table mode old (λ prefix. Found (prefix ++ entered_placement new) ∷ events_of table mode prefix new) → now ≡ before → IsTurn table mode (fs ++ old ∷ []) (fs ++ new ∷ []) before now true
   unfolding found floods
   turn-full before now goes steps =
-      let e : stacked table mode [] (fs ++ old ∷ []) ≡ Found (path_of fs ++ entered_placement new) ∷ stacked table mode [] (fs ++ new ∷ []) = old-events (λ prefix. Found (prefix ++ entered_placement new) ∷ events_of table mode prefix new) goes ∙ ap (λ l. Found (path_of fs ++ entered_placement new) ∷ l) (sym new-events) in
-      record {
-        room = room-new;
-        finds = ap found e ∙ ap (λ p. p ∷ found (stacked table mode [] (fs ++ new ∷ []))) (sym (path-last fs new));
-        counted = omega (arith, ap floods e, steps);
-        fewer = omega (arith, ap floods e);
-        shorter = omega (arith, ap length e);
-      }
+      search (rules, (old-events (λ prefix. Found (prefix ++ entered_placement new) ∷ events_of table mode prefix new) goes), new-events, room-new, (path-last fs new))
 
   pub turn-over : (before now : ℕ) → GoesAs table mode old (λ prefix. Tick ∷ []) → now ≡ before → IsTurn table mode (fs ++ old ∷ []) fs before now false
   unfolding found floods
-  turn-over before now goes steps =
-      let e : stacked table mode [] (fs ++ old ∷ []) ≡ Tick ∷ stacked table mode [] fs = old-events (λ prefix. Tick ∷ []) goes in
-      record { room = (room-last 0 fs old room).0; finds = ap found e; counted = omega (arith, ap floods e, steps); fewer = omega (arith, ap floods e); shorter = omega (arith, ap length e) }
+  turn-over before now goes steps = search (rules, (old-events (λ prefix. Tick ∷ []) goes), (room-last 0 fs old room))
 
   pub turn-entered : (before now : ℕ) (child : Frame) → GoesAs table mode old (λ prefix. Tick ∷ (events_of table mode (prefix ++ entered_placement new) child ++ events_of table mode prefix new)) → now ≡ before → child.setup.left + 1 ≡ old.setup.left →
       IsTurn table mode (fs ++ old ∷ []) ((fs ++ new ∷ []) ++ child ∷ []) before now false
   unfolding found floods
   turn-entered before now child goes steps fewer =
-      let deeper : stacked table mode [] ((fs ++ new ∷ []) ++ child ∷ []) ≡ (events_of table mode (path_of fs ++ entered_placement new) child ++ events_of table mode (path_of fs) new) ++ below =
-      stacked-last table mode [] (fs ++ new ∷ []) child
-      ∙ (λ i. events_of table mode (path-last fs new i) child ++ new-events i)
-      ∙ sym (append_assoc (events_of table mode (path_of fs ++ entered_placement new) child) (events_of table mode (path_of fs) new) below) in
-      let e : stacked table mode [] (fs ++ old ∷ []) ≡ Tick ∷ stacked table mode [] ((fs ++ new ∷ []) ++ child ∷ []) =
-      old-events (λ prefix. Tick ∷ (events_of table mode (prefix ++ entered_placement new) child ++ events_of table mode prefix new)) goes ∙ ap (λ l. Tick ∷ l) (sym deeper) in
-      let fits = room-last 0 fs old room in
-      record {
-        room = room-more 0 (fs ++ new ∷ []) child room-new (omega (arith, fits.1, fewer, length-append fs (new ∷ [])));
-        finds = ap found e;
-        counted = omega (arith, ap floods e, steps);
-        fewer = omega (arith, ap floods e);
-        shorter = omega (arith, ap length e);
-      }
+      search (rules, (stacked-last table mode [] (fs ++ new ∷ []) child), (path-last fs new), new-events, (append_assoc (events_of table mode (path_of fs ++ entered_placement new) child) (events_of table mode (path_of fs) new) below), (old-events (λ prefix. Tick ∷ (events_of table mode (prefix ++ entered_placement new) child ++ events_of table mode prefix new)) goes), (room-more 0 (fs ++ new ∷ []) child room-new), (room-last 0 fs old room), (length-append fs (new ∷ [])))
 
 -- ---- the frames in use, of which the deepest is written, and those behind it
 
@@ -129,11 +101,7 @@ module _ (walked : List Frame) (top depth : ℕ) (next : depth ≡ top + 1) (lon
     written-below = take-append-le top written behind (omega (arith, size, next)) ∙ take-set walked top new
 
     pub written-deeper : (d : Frame) → 0 < length behind → take (depth + 1) (written ++ behind) ≡ (take top walked ++ new ∷ []) ++ get_or behind 0 d ∷ []
-    written-deeper d more =
-        ap (λ k. take (k + 1) (written ++ behind)) (sym size)
-        ∙ take-append-add written behind 1
-        ∙ ap (λ l. written ++ l) (take-suc behind 0 d more)
-        ∙ ap (λ l. l ++ get_or behind 0 d ∷ []) shape
+    written-deeper d more = search (rules, size, (take-append-add written behind 1), (take-suc behind 0 d more), shape)
 
     pub written-child : (d e : Frame) → 0 < length behind → get_or (written ++ behind) depth e ≡ get_or behind 0 d
     written-child d e more =
@@ -160,28 +128,20 @@ module _ (table : Table) (mode : DropMode) (frames walked : List Frame) (same : 
 
   -- there is room behind a frame for the placements that come after its next one
   pub array-deeper : has_room 0 frames ≡ true → last.setup.left + depth ≤ 20
-  array-deeper room =
-      let fits = room-last 0 before_last last (array-room room) in
-      omega (arith, fits.1, length-take-le (depth - 1) walked (omega (arith, long)))
+  array-deeper room = search (rules, (room-last 0 before_last last (array-room room)), (length-take-le (depth - 1) walked))
 
   module _ (new : Frame) (behind : List Frame) (before now : ℕ) where
     pub array-turn : (solved : Bool) → IsTurn table mode (before_last ++ last ∷ []) (before_last ++ new ∷ []) before now solved →
         IsTurn table mode frames (take depth (set walked (depth - 1) new ++ behind)) before now solved
-    array-turn solved turn =
-        subst (λ l. IsTurn table mode l (take depth (set walked (depth - 1) new ++ behind)) before now solved) (sym shape_of)
-        (subst (λ l. IsTurn table mode (before_last ++ last ∷ []) l before now solved) (sym (written-top walked (depth - 1) depth (omega (arith, some)) long new behind)) turn)
+    array-turn solved turn = search (rules, shape_of, (written-top walked (depth - 1)))
 
     pub array-over : IsTurn table mode (before_last ++ last ∷ []) before_last before now false →
         IsTurn table mode frames (take (depth - 1) (set walked (depth - 1) new ++ behind)) before now false
-    array-over turn =
-        subst (λ l. IsTurn table mode l (take (depth - 1) (set walked (depth - 1) new ++ behind)) before now false) (sym shape_of)
-        (subst (λ l. IsTurn table mode (before_last ++ last ∷ []) l before now false) (sym (written-below walked (depth - 1) depth (omega (arith, some)) long new behind)) turn)
+    array-over turn = search (rules, shape_of, (written-below walked (depth - 1)))
 
     pub array-entered : (e : Frame) → 0 < length behind → IsTurn table mode (before_last ++ last ∷ []) ((before_last ++ new ∷ []) ++ get_or behind 0 e ∷ []) before now false →
         IsTurn table mode frames (take (depth + 1) (set walked (depth - 1) new ++ behind)) before now false
-    array-entered e more turn =
-        subst (λ l. IsTurn table mode l (take (depth + 1) (set walked (depth - 1) new ++ behind)) before now false) (sym shape_of)
-        (subst (λ l. IsTurn table mode (before_last ++ last ∷ []) l before now false) (sym (written-deeper walked (depth - 1) depth (omega (arith, some)) long new behind e more)) turn)
+    array-entered e more turn = search (rules, shape_of, (written-deeper walked (depth - 1)))
 
 -- what was found before stays found
 pub finds-more : (first old new : List (List Placement)) (path : List Placement) (solved some : Bool) → first ≡ old → Finds old new path solved → solved ≡ true → some ≡ true → Finds first new path some
@@ -195,6 +155,4 @@ finds-none old new path solved e finds = search rules
 pub path-more : (frames : List Frame) (i : ℕ) (frame : Frame) → i < length frames → frame ≡ get_or frames i frame → path_of (take (i + 1) frames) ≡ path_of (take i frames) ++ entered_placement frame
 path-more frames i frame within is =
     let next : i + 1 ≡ suc i = omega arith in
-    ap (λ k. path_of (take k frames)) next
-    ∙ ap path_of (take-suc frames i frame within ∙ ap (λ f. take i frames ++ f ∷ []) (sym is))
-    ∙ path-last (take i frames) frame
+    search (rules, (take-suc frames i frame within), (path-last (take i frames) frame))

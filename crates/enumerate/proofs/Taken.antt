@@ -36,13 +36,8 @@ module _ (places : LowPlaces) (listed : Listed places) where
   held = filter (holds places) (placements_of (piece_of places))
 
   held-list : IsRisingListOf placement_cmp (λ q. holds places q ≡ true) held
-  held-list = record {
-    rising = IsStrictlySortedBy-filter placement_cmp (holds places) (placements_of (piece_of places)) (placements_of-list (piece_of places)).rising;
-    members = λ q. (
-      λ among. (Contains-from_filter (holds places) (placements_of (piece_of places)) q among).1,
-      λ is_held. Contains-filter (holds places) (placements_of (piece_of places)) q (listed q is_held) is_held,
-    );
-  }
+  held-list =
+      search (rules, (IsStrictlySortedBy-filter placement_cmp (holds places) (placements_of (piece_of places)) (placements_of-list (piece_of places)).rising), (Contains-from_filter (holds places) (placements_of (piece_of places))), (Contains-filter (holds places) (placements_of (piece_of places))))
 
   -- the next of the held placements is the first of those that are left
   pub next-first : (last r : Option Placement) → IsNextAbove placement_cmp (λ q. holds places q ≡ true) last r →
@@ -58,10 +53,7 @@ module _ (places : LowPlaces) (listed : Listed places) where
           MatchOption r (filter (λ q. holds places q && is_above placement_cmp last q) (placements_of (piece_of places)) ≡ [])
           (λ q. filter (λ q. holds places q && is_above placement_cmp last q) (placements_of (piece_of places)) ≡ q ∷ filter (λ p. holds places p && is_above placement_cmp (Some q) p) (placements_of (piece_of places)))
       at None e = filter-both (holds places) (is_above placement_cmp last) (placements_of (piece_of places)) ∙ filter_above-none placement_cmp placement_cmp-total last held e
-      at (Some q) e =
-          filter-both (holds places) (is_above placement_cmp last) (placements_of (piece_of places))
-          ∙ filter_above-next placement_cmp placement_cmp-total last held q held-list.rising e
-          ∙ ap (λ l. q ∷ l) (sym (filter-both (holds places) (is_above placement_cmp (Some q)) (placements_of (piece_of places))))
+      at (Some q) e = search (rules, (filter-both (holds places) (is_above placement_cmp last) (placements_of (piece_of places))), (filter_above-next placement_cmp placement_cmp-total last held q held-list.rising e), (filter-both (holds places) (is_above placement_cmp (Some q)) (placements_of (piece_of places))))
 
 -- one is taken out, or none where none is held
 module _ (old new : LowPlaces) (kind : piece_of new ≡ piece_of old) (taken : Option Placement)

@@ -1,5 +1,5 @@
 -- What plays to the end leaves a tiling, and the supply of a queue set is that of its line.
-use Rattle.std.proofs.Common.{◌≡◌, ◌↔◌, ℕ, suc, ◌+◌, ◌-◌, ◌≤◌, Bool, true, cond, List, [], ◌∷◌, ◌++◌, length, refl, sym, ap, subst, ◌∙◌, arith}
+use Rattle.std.proofs.Common.{◌≡◌, ◌↔◌, ℕ, ◌+◌, ◌-◌, ◌≤◌, Bool, true, cond, List, [], ◌∷◌, ◌++◌, length, refl, sym, ap, subst, ◌∙◌, arith, rules}
 use Rattle.std.specs.Prelude.{count_by, min, ◌==◌}
 use Rattle.std.specs.Bool.{one_answer}
 use Rattle.std.proofs.lemmas.Bool.{cases_Bool, cond-false, cond-true}
@@ -25,7 +25,6 @@ use Rattle.prune.specs.Tiling.{Supply, Tiling, supply_in}
 use Rattle.prune.specs.OnePart.{less_one}
 use Rattle.prune.specs.Laws.{ClearsRows, kinds_placed}
 use Rattle.prune.proofs.CallerLemmas.{cleared_is_tiled, full_rows_may_stand, more_pieces}
-use Rattle.empty_cells.specs.SupplyWords
 use Rattle.empty_cells.specs.Empties.{all_but, without_placement}
 use Rattle.empty_cells.specs.HasTiling.{has_tiling}
 use Rattle.empty_cells.proofs.CallerLemmas.{left_by_placement, tiling_below, tiling_decided}
@@ -36,6 +35,7 @@ use Rattle.enumerate.specs.Setups.{position_of}
 use Rattle.enumerate.specs.Position.{Position, after_of, can_be_tiled, is_live}
 use Rattle.problem.proofs.CallerLemmas.{IsLow, locked-low}
 use Rattle.moves.proofs.CallerLemmas.{place-free}
+use Rattle.empty_cells.specs.SupplyWords
 
 -- what plays clears all rows
 pub plays-clears : (table : Table) (mode : DropMode) (F : Field) (rows : ℕ) (s : List Placement) → Plays table mode F rows s → ClearsRows F rows s
@@ -105,11 +105,7 @@ supply-moves line piece left before after is moves = fun_ext (λ other. moves ot
 pub live-after : (table : Table) (mode : DropMode) (setup : Setup) (q : Placement) (supply : Supply) → ((other : Piece) → supply other ≡ min setup.left (less_one (SupplyWords.supply_of setup.supply) q.piece other)) →
     (left : ℕ) → left + 1 ≡ setup.left → is_live left (after_of (position_of table mode setup) q) ≡ has_tiling (locked (filled setup.well) q) (setup.rows - rows_removed (filled setup.well) q) supply
 unfolding is_live can_be_tiled after_of position_of
-live-after table mode setup q supply moves left less =
-    let line = queues_in_play setup.line.queues in
-    let next : suc left ≡ setup.left = omega arith in
-    ap (has_tiling (locked (filled setup.well) q) (setup.rows - rows_removed (filled setup.well) q))
-    (ap (supply_of (record line { played = line.played ++ q.piece ∷ [] })) next ∙ sym (supply-moves line q.piece setup.left (SupplyWords.supply_of setup.supply) supply setup.supplied moves))
+live-after table mode setup q supply moves left less = search (rules, (supply-moves (queues_in_play setup.line.queues) q.piece setup.left))
 
 -- what is left lies below the rows left
 pub locked-below : (setup : Setup) (q : Placement) (well : Well) (rows : ℕ) → is_below setup.rows q ≡ true → is_free (filled setup.well) q ≡ true →

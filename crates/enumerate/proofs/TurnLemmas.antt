@@ -154,10 +154,7 @@ module _ (table : Table) (mode : DropMode) (old new : Frame) (same : new.setup �
 
   pub goes-past_kind : may_play (queues_in_play old.setup.line.queues) c ≡ false → places_left new.places new.entered ≡ [] → (prefix : List Placement) → events_of table mode prefix old ≡ events_of table mode prefix new
   unfolding tried position_of
-  goes-past_kind not_played none_new prefix =
-      begins prefix
-      ∙ ap (λ l. l ++ tried_in_turn (enter old.setup.left) prefix (position_of table mode old.setup) (drop new.tried all_pieces)) (cond-false (may_play (queues_in_play old.setup.line.queues) c) _ [] not_played)
-      ∙ sym (events-shape table mode new prefix none_new ∙ rest-same prefix)
+  goes-past_kind not_played none_new prefix = search (rules, (begins prefix), cond-false, (events-shape table mode), (rest-same prefix))
 
   pub goes-flooded : may_play (queues_in_play old.setup.line.queues) c ≡ true → places_left new.places new.entered ≡ filter (is_below old.setup.rows) (places_at (position_of table mode old.setup) c) → GoesAs table mode old (λ prefix. Flood ∷ events_of table mode prefix new)
   unfolding tried position_of events_of
@@ -178,18 +175,7 @@ module _ (table : Table) (mode : DropMode) (old new : Frame) (same : new.setup �
     (first : places_left old.places old.entered ≡ q ∷ places_left new.places new.entered) (kinds : new.tried ≡ old.tried) where
   pub one-entered : (prefix : List Placement) → events_of table mode prefix old ≡ entered (enter new.setup.left) prefix (position_of table mode new.setup) q ++ events_of table mode prefix new
   unfolding events_of
-  one-entered prefix =
-      (λ i. flat_map (entered (enter (left i)) prefix (position i)) (first i) ++ tried_in_turn (enter (left i)) prefix (position i) (drop (kinds' i) all_pieces))
-      ∙ append_assoc (entered (enter new.setup.left) prefix (position_of table mode new.setup) q) (flat_map (entered (enter new.setup.left) prefix (position_of table mode new.setup)) (places_left new.places new.entered)) (tried_in_turn (enter new.setup.left) prefix (position_of table mode new.setup) (drop new.tried all_pieces))
-    where
-      left : old.setup.left ≡ new.setup.left
-      left = ap (λ (s : Setup). s.left) (sym same)
-
-      kinds' : old.tried ≡ new.tried
-      kinds' = sym kinds
-
-      position : position_of table mode old.setup ≡ position_of table mode new.setup
-      position = ap (position_of table mode) (sym same)
+  one-entered prefix = search (rules, append_assoc)
 
   pub one-passed : EntersAs new.setup q (λ table mode prefix. []) → (prefix : List Placement) → events_of table mode prefix old ≡ events_of table mode prefix new
   one-passed enters prefix = one-entered prefix ∙ ap (λ l. l ++ events_of table mode prefix new) (enters.same table mode prefix)

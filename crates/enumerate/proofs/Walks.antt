@@ -1,12 +1,11 @@
 -- What a walk finds is the list of solutions from its position on, each after the prefix.
-use Rattle.std.proofs.Common.{◌≡◌, ℕ, zero, suc, ◌+◌, Bool, true, false, List, [], ◌∷◌, ◌++◌, map, refl, sym, ap, ◌∙◌, arith, append_assoc, rules}
+use Rattle.std.proofs.Common.{◌≡◌, ℕ, zero, suc, ◌+◌, Bool, List, [], ◌∷◌, ◌++◌, map, refl, sym, ap, ◌∙◌, arith, append_assoc, rules}
 use Rattle.std.specs.Prelude.{◌==◌, if◌then◌else◌}
 use Rattle.std.specs.List.{flat_map}
 use Rattle.std.proofs.lemmas.List.{append-nil, map-append}
 use Rattle.srs.specs.declared.piece.Piece.{Piece}
 use Rattle.srs.specs.declared.placement.Placement.{Placement}
-use Rattle.srs.specs.Piece.{all_pieces}
-use Rattle.enumerate.specs.Position.{Position, may_play, places_at, is_live}
+use Rattle.enumerate.specs.Position.{Position, places_at}
 use Rattle.enumerate.specs.Events.{Event, Tick, Flood, Found, found, floods, Walk, entered, tried, tried_in_turn, enter}
 use Rattle.enumerate.proofs.Solutions.{Sequences, of_place, of_kind, sols}
 
@@ -70,11 +69,7 @@ module _ (walk : Walk) (S : Sequences) (finds : Finds walk S) (prefix : List Pla
 
   found-tried : (piece : Piece) → found (tried walk prefix n piece) ≡ prefixed prefix (of_kind S n piece)
   unfolding tried of_kind found prefixed
-  found-tried piece = at (may_play n.line piece)
-    where
-      at : (b : Bool) → found (if b then Flood ∷ flat_map (entered walk prefix n) (places_at n piece) else []) ≡ prefixed prefix (if b then flat_map (of_place S n) (places_at n piece) else [])
-      at true = found-places (places_at n piece)
-      at false = refl
+  found-tried piece = search (rules, (found-places (places_at n piece)))
 
   found-kinds : (pieces : List Piece) → found (flat_map (tried walk prefix n) pieces) ≡ prefixed prefix (flat_map (of_kind S n) pieces)
   unfolding found prefixed
@@ -102,8 +97,4 @@ found-if_live b prefix events l e = search rules
 pub finds-enter : (left : ℕ) → Finds (enter left) (sols left)
 unfolding enter sols found
 finds-enter zero = record { same = λ prefix n. found-leaf (n.rows == 0) prefix }
-finds-enter (suc left) = record {
-  same = λ prefix n.
-      found-if_live (is_live left n) prefix (Tick ∷ tried_in_turn (enter left) prefix n all_pieces) (flat_map (of_kind (sols left) n) all_pieces)
-      (found-tried_in_turn (enter left) (sols left) (finds-enter left) prefix n all_pieces);
-}
+finds-enter (suc left) = search (rules, found-if_live, (found-tried_in_turn (enter left) (sols left) (finds-enter left)))

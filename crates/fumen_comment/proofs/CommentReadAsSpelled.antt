@@ -1,5 +1,5 @@
 -- A comment that is read stands there, and what stands there is read; a fault is the first one there.
-use Rattle.std.proofs.Common.{◌≡◌, ℕ, ◌+◌, ◌≤◌, List, ◌++◌, length, take, Result, Ok, Err, refl, sym, ap, subst, ◌∙◌, inl, inr, arith, rules}
+use Rattle.std.proofs.Common.{◌≡◌, ℕ, ◌+◌, ◌≤◌, List, length, Result, Ok, Err, sym, ap, subst, ◌∙◌, inl, inr, rules}
 use Rattle.std.specs.List.{flat_map}
 use Rattle.std.proofs.lemmas.List.{length-take}
 use Rattle.fumen_digits.specs.Number.{digits, Stands, NumberStands}
@@ -7,7 +7,7 @@ use Rattle.fumen_digits.specs.declared.fault.FumenFault.{FumenFault}
 use Rattle.fumen_digits.specs.Reading.{◌>>=◌, number_at}
 use Rattle.fumen_digits.proofs.CallerLemmas.{bind_ok, bind_err, ok_bind, err_bind, length-digits, Stands-then, Stands-parts, stands_from_read, read_from_stands, number_fault_from_read, read_from_number_fault}
 use Rattle.fumen_comment.specs.Unescape.{unescaped}
-use Rattle.fumen_comment.specs.Part.{unpacked, group_count, AreGroups, SpellsText}
+use Rattle.fumen_comment.specs.Part.{group_count, SpellsText}
 use Rattle.fumen_comment.specs.Reading.{text_at, comment_at}
 use Rattle.fumen_comment.specs.Faults.{IsGroupDue, IsCommentFault, CommentStands}
 use Rattle.fumen_comment.proofs.Groups.{characters_of, characters_of-is, length-unpacked_all, TextStands, text_from_read, read_from_text, GroupsDue, TextFault, text_fault_from_read, read_from_text_fault, done_text}
@@ -21,25 +21,7 @@ length_of_text total text groups least is = search (rules, characters_of-is, len
 
 spells : (ds : List ℕ) (place total end : ℕ) (text : List ℕ) → NumberStands ds place 2 total → TextStands ds (place + 2) total (group_count total) text end → CommentStands ds place (unescaped text) end
 spells ds place total end text number t =
-    let same : length text ≡ total = length_of_text total text t.groups t.count_is t.characters in
-    let part = digits 2 (length text) ++ flat_map (digits 5) t.groups in
-    let length_stands : Stands ds place (digits 2 (length text)) (place + 2) = subst (λ (n : ℕ). Stands ds place (digits 2 n) (place + 2)) (sym same) number.stands in
-    record {
-      text = part;
-      stands = Stands-then ds place (digits 2 (length text)) (place + 2) (flat_map (digits 5) t.groups) end length_stands t.stands;
-      spells = record {
-        text = text;
-        spells = record {
-          short = omega (arith, number.below);
-          groups = t.groups;
-          least = t.count_is ∙ ap group_count (sym same);
-          each = subst (λ (n : ℕ). AreGroups n t.groups) (sym same) t.each;
-          characters = t.characters ∙ (characters_of-is total t.groups ∙ ap (λ (n : ℕ). take n (flat_map (unpacked 4) t.groups)) (sym same));
-          spelled = refl;
-        };
-        means = refl;
-      };
-    }
+    search (rules, (length_of_text total text t.groups t.count_is t.characters), (Stands-then ds place (digits 2 (length text)) (place + 2) (flat_map (digits 5) t.groups) end), (characters_of-is total t.groups))
 
 pub comment_from_read : (ds : List ℕ) (place : ℕ) (units : List ℕ) (end : ℕ) → place ≤ length ds → comment_at ds place ≡ Ok (units, end) → CommentStands ds place units end
 unfolding comment_at
@@ -53,21 +35,11 @@ comment_from_read ds place units end le e =
 -- the length of a text that stands there, and its groups
 length_stands : (ds : List ℕ) (place end : ℕ) (text part : List ℕ) → SpellsText text part → Stands ds place part end → NumberStands ds place 2 (length text)
 length_stands ds place end text part s stands =
-    let whole = subst (λ (x : List ℕ). Stands ds place x end) s.spelled stands in
-    let parts = Stands-parts ds place (digits 2 (length text)) (flat_map (digits 5) s.groups) end whole in
-    record { below = s.short; stands = subst (λ (k : ℕ). Stands ds place (digits 2 (length text)) (place + k)) (length-digits 2 (length text)) parts.0 }
+    search (rules, (length-digits 2 (length text)), (Stands-parts ds place (digits 2 (length text)) (flat_map (digits 5) s.groups) end))
 
 groups_stand : (ds : List ℕ) (place end : ℕ) (text part : List ℕ) → SpellsText text part → Stands ds place part end → TextStands ds (place + 2) (length text) (group_count (length text)) text end
 groups_stand ds place end text part s stands =
-    let whole = subst (λ (x : List ℕ). Stands ds place x end) s.spelled stands in
-    let parts = Stands-parts ds place (digits 2 (length text)) (flat_map (digits 5) s.groups) end whole in
-    record {
-      groups = s.groups;
-      count_is = s.least;
-      each = s.each;
-      characters = s.characters ∙ sym (characters_of-is (length text) s.groups);
-      stands = subst (λ (k : ℕ). Stands ds (place + k) (flat_map (digits 5) s.groups) end) (length-digits 2 (length text)) parts.1;
-    }
+    search (rules, (characters_of-is (length text) s.groups), (length-digits 2 (length text)), (Stands-parts ds place (digits 2 (length text)) (flat_map (digits 5) s.groups) end))
 
 pub read_from_comment : (ds : List ℕ) (place : ℕ) (units : List ℕ) (end : ℕ) → CommentStands ds place units end → comment_at ds place ≡ Ok (units, end)
 unfolding comment_at

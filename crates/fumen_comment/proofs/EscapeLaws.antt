@@ -1,5 +1,5 @@
 -- Escaped text is printable and has no blank, and unescaping gives the units back.
-use Rattle.std.proofs.Common.{◌≡◌, ℕ, ◌+◌, ◌/◌, ◌%◌, ◌^◌, ◌<◌, ◌≤◌, Bool, true, false, cond, eqb, leb, ◌&&◌, ◌||◌, not, List, [], ◌∷◌, ◌++◌, drop, All, refl, sym, ap, ◌∙◌, inl, inr, arith, rules}
+use Rattle.std.proofs.Common.{◌≡◌, ℕ, ◌/◌, ◌%◌, ◌^◌, ◌<◌, ◌≤◌, Bool, true, false, cond, eqb, leb, ◌&&◌, ◌||◌, not, List, [], ◌∷◌, ◌++◌, drop, All, refl, sym, ap, ◌∙◌, inl, inr, arith, rules}
 use Rattle.std.specs.List.{flat_map}
 use Rattle.std.proofs.lemmas.Bool.{agree_below_at, cases_lt, lt-ltb, le-ltb, leb-true, and_parts, not-true}
 use Rattle.std.proofs.lemmas.List.Elements.{All-nil, All-cons, All-append, All-head, All-tail}
@@ -93,10 +93,7 @@ low_unit_again u false rest lt e = unit_front 37 (hex_byte u ++ rest) u 2 (short
 
 unit_again : (u : ℕ) (rest : List ℕ) → u < 2 ^ 16 → unescaped (escaped_unit u ++ rest) ≡ u ∷ unescaped rest
 unit_again u rest fits =
-    elim (cases_lt u 256) [
-      | inl low ↦ rw (lt-ltb u 256 low) (low_unit_again u (stays u) rest low refl)
-      | inr high ↦ rw (le-ltb u 256 high) (unit_front 37 (117 ∷ (hex_byte (u / 256) ++ (hex_byte (u % 256) ++ rest))) u 5 (long_again u rest fits))
-    ]
+    search (rules, (cases_lt u 256), (lt-ltb u 256), (low_unit_again u (stays u) rest), (le-ltb u 256), (unit_front 37 (117 ∷ (hex_byte (u / 256) ++ (hex_byte (u % 256) ++ rest))) u 5 (long_again u rest fits)))
 
 pub unescaped-escaped : (units : List ℕ) → All (λ u. u < 2 ^ 16) units → unescaped (escaped units) ≡ units
 unfolding escaped unescaped_behind

@@ -10,9 +10,7 @@ use Rattle.fumen_comment.proofs.Groups.{group_from_read, done_text}
 -- a length and its first group were read
 pub group_from_first : (ds : List ℕ) (place total : ℕ) → place ≤ length ds → number_at ds place 2 ≡ Ok total → HasFirst ds (place + 2) total → HasGroup ds place
 group_from_first ds place total le read first =
-    let number = stands_from_read ds place place 2 total le read in
-    let group = group_from_read ds (place + 2) total first.1 number.stands.within first.2 in
-    record { total = total; some = first.0; total_stands = number; group = first.1; group_stands = group.number; good = group.good }
+    search (rules, (group_from_read ds (place + 2) total first.1 (stands_from_read ds place place 2 total le read).stands.within first.2), (stands_from_read ds place place 2 total le read))
 
 fewest : (count : ℕ) → 0 < group_count count → 0 < count
 fewest count some = omega (arith, some)

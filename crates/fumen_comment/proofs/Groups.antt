@@ -24,15 +24,7 @@ characters_of left [] = []
 characters_of left (group ∷ groups) = take left (unpacked 4 group) ++ characters_of (left - 4) groups
 
 take-append : (n : ℕ) (xs ys : List ℕ) → take n (xs ++ ys) ≡ take n xs ++ take (n - length xs) ys
-take-append n xs ys =
-    elim (cases_lt n (length xs)) [
-      | inl lt ↦
-          let none : n - length xs ≡ 0 = omega arith in
-          take-append-le n xs ys (omega arith) ∙ (sym (append-nil (take n xs)) ∙ ap (λ (k : ℕ). take n xs ++ take k ys) (sym none))
-      | inr le ↦
-          let parts : n ≡ length xs + (n - length xs) = omega arith in
-          ap (λ (k : ℕ). take k (xs ++ ys)) parts ∙ (take-append-add xs ys (n - length xs) ∙ ap (λ (t : List ℕ). t ++ take (n - length xs) ys) (sym (take_all n xs le)))
-    ]
+take-append n xs ys = search (rules, (cases_lt n (length xs)), (take-append-le n xs ys), (append-nil (take n xs)), (take-append-add xs ys (n - length xs)), (take_all n xs))
 
 take-nil : (n : ℕ) → ◌≡◌ {A = List ℕ} (take n []) []
 take-nil n = search rules
@@ -69,12 +61,7 @@ pub record GroupStands (ds : List ℕ) (place left group : ℕ) : Type 0 where
 pub group_from_read : (ds : List ℕ) (place left group : ℕ) → place ≤ length ds → group_at ds place left ≡ Ok group → GroupStands ds place left group
 unfolding group_at
 group_from_read ds place left group le e =
-    let n = bind_ok (number_at ds place 5) (λ g. cond (is_group left g) (Ok g) (Err (BadComment place))) group e in
-    let c = chosen_ok (is_group left n.0) n.0 (BadComment place) group n.2 in
-    record {
-      number = stands_from_read ds place place 5 group le (n.1 ∙ ap (λ (k : ℕ). Ok k) c.1);
-      good = subst (λ (k : ℕ). is_group left k ≡ true) c.1 c.0;
-    }
+    search (rules, (bind_ok (number_at ds place 5) (λ g. cond (is_group left g) (Ok g) (Err (BadComment place))) group e), (stands_from_read ds place place 5 group le), chosen_ok)
 
 -- the fault of a group that is due at a place
 abbrev pub GroupFault : List ℕ → ℕ → ℕ → FumenFault → Type 0
@@ -134,12 +121,7 @@ record FirstGroup (ds : List ℕ) (place left group : ℕ) (groups : List ℕ) (
 
 first_group : (ds : List ℕ) (place left group : ℕ) (groups : List ℕ) (end : ℕ) → is_group left group ≡ true → Stands ds place (digits 5 group ++ flat_map (digits 5) groups) end → FirstGroup ds place left group groups end
 first_group ds place left group groups end good s =
-    let parts = Stands-parts ds place (digits 5 group) (flat_map (digits 5) groups) end s in
-    let len : place + length (digits 5 group) ≡ place + 5 = ap (λ (k : ℕ). place + k) (length-digits 5 group) in
-    record {
-      one = record { number = record { below = group_below left group good; stands = subst (λ (k : ℕ). Stands ds place (digits 5 group) k) len parts.0 }; good = good };
-      others = subst (λ (k : ℕ). Stands ds k (flat_map (digits 5) groups) end) len parts.1;
-    }
+    search (rules, (length-digits 5 group), (group_below left group good), (Stands-parts ds place (digits 5 group) (flat_map (digits 5) groups) end s))
 
 read_more : (ds : List ℕ) (place left count group : ℕ) → GroupStands ds place left group → text_at ds place left (suc count) ≡ behind ds place left count group
 unfolding text_at group_at
@@ -192,10 +174,7 @@ read_due : (ds : List ℕ) (place left count k rest : ℕ) (f : FumenFault) (gro
 unfolding text_at
 read_due ds place left zero k rest f groups each s fewer rest_is fault = absurd (omega arith)
 read_due ds place left (suc count) k rest f [] each s fewer rest_is fault =
-    let here : k ≡ place = omega (arith, s.upto) in
-    let all : rest ≡ left = omega arith in
-    let due : GroupFault ds place left f = subst (λ (p : ℕ × ℕ). GroupFault ds p.0 p.1 f) (pair_is k place rest left here all) fault in
-    err_bind (group_at ds place left) (λ group. behind ds place left count group) f (read_from_group_fault ds place left f due)
+    search (rules, (pair_is k place rest left), (err_bind (group_at ds place left) (λ group. behind ds place left count group) f), (read_from_group_fault ds place left f))
 read_due ds place left (suc count) k rest f (group ∷ groups) each s fewer rest_is fault =
     let first = first_group ds place left group groups k each.0 s in
     read_more ds place left count group first.one

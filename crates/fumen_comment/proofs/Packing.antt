@@ -33,10 +33,7 @@ unfolding packed
 packed_all text i number weight le s = search (rules, drop_all)
 
 pub packed_below : (text : List ℕ) (i number weight : ℕ) → i ≤ 4 → IsPackedSoFar text i number weight → number < 96 ^ 4
-packed_below text i number weight most s =
-    let positive : 0 < 96 = omega arith in
-    let power : 96 ^ i ≤ 96 ^ 4 = pow-le-pow_right positive most in
-    omega (arith, s.below, s.weight_is)
+packed_below text i number weight most s = search (rules, pow-le-pow_right)
 
 pub length-unpacked : (count group : ℕ) → length (unpacked count group) ≡ count
 unfolding unpacked

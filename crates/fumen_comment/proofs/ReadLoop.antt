@@ -1,5 +1,5 @@
 -- Reading the groups of a text one after the other, as a loop does.
-use Rattle.std.proofs.Common.{◌≡◌, ℕ, suc, ◌+◌, ◌-◌, ◌<◌, ◌≤◌, ◌⊎◌, inl, inr, List, [], ◌++◌, length, take, Result, Ok, refl, sym, ap, ◌∙◌, append_assoc, arith, rules}
+use Rattle.std.proofs.Common.{◌≡◌, ℕ, suc, ◌+◌, ◌-◌, ◌<◌, ◌≤◌, ◌⊎◌, inl, inr, List, [], ◌++◌, length, take, Result, Ok, refl, sym, append_assoc, arith, rules}
 use Rattle.std.proofs.lemmas.List.{append-nil}
 use Rattle.pc_outside.specs.declared.answers.Refused.{Refused}
 use Rattle.pc_outside.specs.declared.answers.Refused.TheVariants as refused
@@ -56,12 +56,7 @@ read_group ds place left group some read = search (rules, one_group, ok_bind)
 pub text_more : (ds : List ℕ) (start count : ℕ) (text : List ℕ) (place left group : ℕ) (more : List ℕ) → 0 < left → place + 5 ≤ length ds → group_at ds place left ≡ Ok group → more ≡ take left (unpacked 4 group)
     → IsReadSoFar ds start count text place left → IsReadSoFar ds start count (text ++ more) (place + 5) (left - 4)
 text_more ds start count text place left group more some room read more_is s =
-    let rest = rest_at ds (place + 5) (left - 4) in
-    record {
-      within = room;
-      completes = ap (λ (x : List ℕ). with_front (text ++ x) rest) more_is ∙ (sym (regroup text (take left (unpacked 4 group)) rest) ∙ (ap (λ (r : Result (List ℕ × ℕ) FumenFault). with_front text r) (sym (read_group ds place left group some read)) ∙ s.completes));
-      begun = inr (first_read ds start count text place left group some read s);
-    }
+    search (rules, (regroup text (take left (unpacked 4 group)) (rest_at ds (place + 5) (left - 4))), (read_group ds place left group some read), (first_read ds start count text place left group some read s))
 
 pub text_stops : (e : Refused CommentFault) (ds : List ℕ) (start count : ℕ) (text : List ℕ) (place left : ℕ) → 0 < left → IsRefusal comment_fault e (group_at ds place left)
     → IsReadSoFar ds start count text place left → IsRefusal comment_fault e (rest_at ds start count)

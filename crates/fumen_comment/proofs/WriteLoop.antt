@@ -1,5 +1,5 @@
 -- Writing the groups of a text one after the other, as a loop does.
-use Rattle.std.proofs.Common.{◌≡◌, ℕ, suc, ◌+◌, ◌<◌, ◌≤◌, min, List, [], ◌∷◌, ◌++◌, length, take, drop, All, refl, sym, ap, subst, ◌∙◌, append_assoc, inl, inr, arith, rules}
+use Rattle.std.proofs.Common.{◌≡◌, ℕ, suc, ◌<◌, ◌≤◌, min, List, ◌∷◌, ◌++◌, length, take, drop, All, refl, sym, ap, subst, ◌∙◌, append_assoc, arith, rules}
 use Rattle.std.specs.List.{flat_map}
 use Rattle.std.proofs.lemmas.Bool.{cases_lt}
 use Rattle.std.proofs.lemmas.List.{append-nil, take_at, drop_at, take_all, drop_all, take-append-le, length-append, length-take, nil_from_length}
@@ -30,25 +30,7 @@ record IsChunk (rest chunk next : List ℕ) : Type 0 where
 
 chunk_of : (rest chunk next : List ℕ) → rest ≡ chunk ++ next → length chunk ≡ min 4 (length rest) → 0 < length rest → IsChunk rest chunk next
 chunk_of rest chunk next parts len some =
-    let total : length rest ≡ length chunk + length next = ap length parts ∙ length-append chunk next in
-    elim (cases_lt (length rest) 4) [
-      | inl short ↦
-          let none : next ≡ [] = nil_from_length next (omega arith) in
-          let whole : rest ≡ chunk = parts ∙ (ap (λ (x : List ℕ). chunk ++ x) none ∙ append-nil chunk) in
-          let empty : length next ≡ 0 = ap length none in
-          record {
-            front = take_all 4 rest (omega arith) ∙ whole;
-            back = drop_all 4 rest (omega arith) ∙ sym none;
-            count = omega arith;
-          }
-      | inr long ↦
-          let four : length chunk ≡ 4 = omega arith in
-          record {
-            front = ap (λ (x : List ℕ). take 4 x) parts ∙ take_at chunk next 4 four;
-            back = ap (λ (x : List ℕ). drop 4 x) parts ∙ drop_at chunk next 4 four;
-            count = omega arith;
-          }
-    ]
+    search (rules, (length-append chunk next), (cases_lt (length rest) 4), (nil_from_length next), (append-nil chunk), (take_all 4 rest), (drop_all 4 rest), (take_at chunk next 4), (drop_at chunk next 4))
 
 groups_next : (rest chunk next : List ℕ) → IsChunk rest chunk next → groups rest ≡ packed chunk ∷ groups next
 unfolding groups_of

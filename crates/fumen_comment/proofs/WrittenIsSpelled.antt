@@ -1,5 +1,5 @@
 -- What is written for a text spells it.
-use Rattle.std.proofs.Common.{◌≡◌, ℕ, zero, suc, ◌+◌, ◌-◌, ◌*◌, ◌^◌, ◌<◌, ◌≤◌, min, true, ltb, List, [], ◌∷◌, ◌++◌, length, take, drop, All, Ok, refl, sym, ap, subst, ◌∙◌, arith, rules}
+use Rattle.std.proofs.Common.{◌≡◌, ℕ, zero, suc, ◌*◌, ◌^◌, ◌<◌, ◌≤◌, true, ltb, List, [], ◌∷◌, length, take, drop, All, Ok, refl, sym, ap, arith, rules}
 use Rattle.std.specs.List.{list_all, AllByRecursion}
 use Rattle.std.proofs.Math.Nat.{pow-succ', pow-le-pow_right}
 use Rattle.std.proofs.lemmas.Bool.{lt-ltb, and_from}
@@ -37,33 +37,19 @@ all_small (c ∷ text) each = and_from (ltb c 127) (list_all (λ k. ltb k 127) t
 -- the characters of the next group are the next characters
 next_group : (text : List ℕ) → All IsPrintable text → take (length text) (unpacked 4 (packed (take 4 text))) ≡ take 4 text
 next_group text each =
-    let front = take 4 text in
-    let group = unpacked 4 (packed front) in
-    let len : length front ≡ min 4 (length text) = length-take 4 text in
-    let four : length group ≡ 4 = length-unpacked 4 (packed front) in
-    let same : min (length text) (length group) ≡ length front = omega arith in
-    sym (take_min (length text) group) ∙ (ap (λ (n : ℕ). take n group) same ∙ unpacked-packed 4 front (omega arith) (recursion_from_All IsPrintable front (All-take IsPrintable 4 text each)))
+    search (rules, (length-take 4 text), (length-unpacked 4 (packed (take 4 text))), (take_min (length text) (unpacked 4 (packed (take 4 text)))), (unpacked-packed 4 (take 4 text)), (recursion_from_All IsPrintable (take 4 text) (All-take IsPrintable 4 text each)))
 
 group_is_good : (text : List ℕ) → All IsPrintable text → is_group (length text) (packed (take 4 text)) ≡ true
 unfolding is_group
 group_is_good text each =
-    let front = take 4 text in
-    let printable = recursion_from_All IsPrintable front (All-take IsPrintable 4 text each) in
-    let len : length front ≡ min 4 (length text) = length-take 4 text in
-    let positive : 0 < 96 = omega arith in
-    let most : length front ≤ 4 = omega arith in
-    let power : 96 ^ length front ≤ 96 ^ 4 = pow-le-pow_right positive most in
-    let below = packed_below front printable in
-    let fits : packed front < 96 ^ 4 = omega arith in
-    and_from (ltb (packed front) (96 ^ 4)) (list_all (λ c. ltb c 127) (take (length text) (unpacked 4 (packed front)))) (lt-ltb (packed front) (96 ^ 4) fits) (ap (λ (x : List ℕ). list_all (λ c. ltb c 127) x) (next_group text each) ∙ all_small front printable)
+    search (rules, (length-take 4 text), pow-le-pow_right, (packed_below (take 4 text) (recursion_from_All IsPrintable (take 4 text) (All-take IsPrintable 4 text each))), (and_from (ltb (packed (take 4 text)) (96 ^ 4)) (list_all (λ c. ltb c 127) (take (length text) (unpacked 4 (packed (take 4 text)))))), (lt-ltb (packed (take 4 text)) (96 ^ 4)), (next_group text each), (all_small (take 4 text) (recursion_from_All IsPrintable (take 4 text) (All-take IsPrintable 4 text each))))
 
 -- ---- all groups
 
 groups_good : (count : ℕ) (text : List ℕ) → All IsPrintable text → AreGroups (length text) (groups_of count text)
 unfolding groups_of
 groups_good zero text each = tt
-groups_good (suc count) text each =
-    (group_is_good text each, subst (λ (n : ℕ). AreGroups n (groups_of count (drop 4 text))) (length-drop 4 text) (groups_good count (drop 4 text) (All-drop IsPrintable 4 text each)))
+groups_good (suc count) text each = search (rules, (group_is_good text each), (length-drop 4 text), (groups_good count (drop 4 text) (All-drop IsPrintable 4 text each)))
 
 groups_count : (count : ℕ) (text : List ℕ) → length (groups_of count text) ≡ count
 unfolding groups_of
@@ -74,22 +60,12 @@ groups_hold : (count : ℕ) (text : List ℕ) → length text ≤ 4 * count → 
 unfolding groups_of
 groups_hold zero text le each = sym (nil_from_length text (omega arith))
 groups_hold (suc count) text le each =
-    let len = length-drop 4 text in
-    let others : characters_of (length text - 4) (groups_of count (drop 4 text)) ≡ drop 4 text = ap (λ (n : ℕ). characters_of n (groups_of count (drop 4 text))) (sym len) ∙ groups_hold count (drop 4 text) (omega arith) (All-drop IsPrintable 4 text each) in
-    ap (λ (x : List ℕ). x ++ characters_of (length text - 4) (groups_of count (drop 4 text))) (next_group text each) ∙ (ap (λ (x : List ℕ). take 4 text ++ x) others ∙ take-append-drop 4 text)
+    search (rules, (length-drop 4 text), (groups_hold count (drop 4 text)), (All-drop IsPrintable 4 text each), (next_group text each), (take-append-drop 4 text))
 
 pub written_spells : (text : List ℕ) → length text ≤ 4095 → All IsPrintable text → SpellsText text (comment_digits text)
 unfolding comment_digits
 written_spells text short printable =
-    let count = group_count (length text) in
-    record {
-      short = omega (arith, short);
-      groups = groups_of count text;
-      least = groups_count count text;
-      each = groups_good count text printable;
-      characters = sym (groups_hold count text (omega arith) printable) ∙ characters_of-is (length text) (groups_of count text);
-      spelled = refl;
-    }
+    search (rules, (groups_count (group_count (length text)) text), (groups_good (group_count (length text)) text printable), (groups_hold (group_count (length text)) text), (characters_of-is (length text) (groups_of (group_count (length text)) text)))
 
 pub written_comment : (text : List ℕ) → length text ≤ 4095 → All IsPrintable text → SpellsComment (unescaped text) (comment_digits text)
 written_comment text short printable = record { text = text; spells = written_spells text short printable; means = refl }

@@ -1,5 +1,5 @@
 -- Faults that are found before a comment is escaped.
-use Rattle.std.proofs.Common.{◌≡◌, ℕ, ◌+◌, ◌-◌, ◌<◌, ◌≤◌, Bool, true, cond, eqb, leb, List, [], ◌∷◌, length, take, drop, Option, Some, None, get_or, sym, ap, subst, ◌∙◌, inl, inr, ◌⊎◌, arith, rules}
+use Rattle.std.proofs.Common.{◌≡◌, ℕ, ◌+◌, ◌<◌, ◌≤◌, Bool, true, cond, eqb, leb, List, [], ◌∷◌, length, take, drop, Option, Some, None, get_or, subst, inl, inr, ◌⊎◌, arith, rules}
 use Rattle.std.specs.List.{list_all}
 use Rattle.std.specs.Option.{option_or, option_map_or}
 use Rattle.std.proofs.lemmas.Bool.{le-ltb}
@@ -71,15 +71,7 @@ found_late pages i page (fault.CommentTooLong number) lt is many from first = fi
 pub none_first : (d : Dialect) (pages : List Page) (i : ℕ) (page : Page) (f : EncodeFault) → i < length pages → length pages ≤ most_pages → page ≡ get_or pages i page → IsMeasured d (i + 1) page → IsCheckedSoFar d pages i
     → list_encode_fault d pages ≡ Some f → IsFoundFirst pages f → ⊥
 none_first d pages i page f lt few is measured s found first =
-    let all : pages_encode_fault d 1 pages ≡ Some f = sym (ap (λ (b : Bool). cond b (Some fault.TooManyPages) (pages_encode_fault d 1 pages)) (le-ltb most_pages (length pages) few)) ∙ found in
-    let split = sym (one_left d pages i page lt is) ∙ s.left ∙ all in
-    elim measured.fault [
-      | inl none ↦ found_late pages i page f lt is measured.many (pages_from d (i + 1 + 1) (drop (i + 1) pages) f (sym (ap (λ (o : Option EncodeFault). option_or o (pages_encode_fault d (i + 1 + 1) (drop (i + 1) pages))) none) ∙ split)) first
-      | inr long ↦
-          let here : Some (fault.CommentTooLong (i + 1)) ≡ Some f = sym (ap (λ (o : Option EncodeFault). option_or o (pages_encode_fault d (i + 1 + 1) (drop (i + 1) pages))) long) ∙ split in
-          let is_long : fault.CommentTooLong (i + 1) ≡ f = cc in
-          subst (IsFoundFirst pages) (sym is_long) first
-    ]
+    search (rules, (le-ltb most_pages (length pages) few), (found_late pages i page f lt is measured.many), (pages_from d (i + 1 + 1) (drop (i + 1) pages) f), (one_left d pages i page lt is))
 
 -- a page whose other parts have no fault has none, or has a long comment
 pub long_or_none : (d : Dialect) (number : ℕ) (page : Page) → list_all (λ cell. leb cell 8) page.cells ≡ true → list_all (λ cell. eqb cell 0) (take (missing_count d) page.cells) ≡ true

@@ -59,11 +59,7 @@ pub read_whole : (d : Dialect) (ds : List ℕ) (pages : List Page) (room total n
     → total ≡ length pages + room → behind ≡ length pages + number → AreCells d before → PagesStand d ds place before promised pages k cells after
     → pages_at d ds total number place before promised ≡ with_front pages (pages_at d ds room behind k cells after)
 read_whole d ds [] room total number behind place before promised k cells after total_is behind_is sound s =
-    let all : total ≡ room = omega arith in
-    let same : behind ≡ number = omega arith in
-    let at_end : with_front [] (pages_at d ds room behind k cells after) ≡ pages_at d ds total number k cells after =
-    from_nothing (pages_at d ds room behind k cells after) ∙ (ap (λ (n : ℕ). pages_at d ds n behind k cells after) (sym all) ∙ ap (λ (n : ℕ). pages_at d ds total n k cells after) same) in
-    whole_nothing (λ p x a. pages_at d ds total number p x a ≡ with_front [] (pages_at d ds room behind k cells after)) d ds place before promised k cells after s (sym at_end)
+    search (rules, (from_nothing (pages_at d ds room behind k cells after)), (whole_nothing (λ p x a. pages_at d ds total number p x a ≡ with_front [] (pages_at d ds room behind k cells after)) d ds place before promised k cells after s))
 read_whole d ds (page ∷ pages) room total number behind place before promised k cells after total_is behind_is sound s =
     let parts = whole_parts d ds place before promised page pages k cells after s in
     let more : total ≡ suc (length pages + room) = omega arith in
@@ -92,11 +88,7 @@ done_pages : (x y : List Page) → ◌≡◌ {A = Result (List Page) FumenFault}
 done_pages x y e = cc
 
 ended : (d : Dialect) (ds : List ℕ) (room place : ℕ) (before : List ℕ) (promised : ℕ) → place ≤ length ds → length ds ≤ place → promised ≡ 0 → ReadToEnd d ds room place before promised []
-ended d ds room place before promised le past none =
-    let end : place ≡ length ds = omega arith in
-    let stand : PagesStand d ds place before promised [] (length ds) before 0 =
-    subst (λ (k : ℕ). PagesStand d ds place before promised [] k before 0) end (subst (λ (n : ℕ). PagesStand d ds place before promised [] place before n) none (whole_none d ds place before promised le)) in
-    record { cells = before; stand = stand; few = omega arith }
+ended d ds room place before promised le past none = search (rules, (whole_none d ds place before promised le))
 
 -- where a page is read, it stands there, and its cells may be left
 record Stepped (d : Dialect) (ds : List ℕ) (place : ℕ) (before : List ℕ) (promised : ℕ) (step : Page × PageReader) : Type 0 where
@@ -108,13 +100,7 @@ record Stepped (d : Dialect) (ds : List ℕ) (place : ℕ) (before : List ℕ) (
 stepped : (d : Dialect) (ds : List ℕ) (number place : ℕ) (before : List ℕ) (promised : ℕ) (step : Page × PageReader) → place ≤ length ds → AreCells d before → next_page_at d ds number place before promised ≡ Ok step
     → Stepped d ds place before promised step
 stepped d ds number place before promised step le sound e =
-    let is = step_from_read d ds number place before promised step le sound e in
-    record {
-      one = is.stands;
-      within = is.stands.tail.stands.within;
-      leaves = is.leaves;
-      sound = subst (λ (x : List ℕ). AreCells d x) (sym is.leaves) (next_cells_sound d step.0 is.stands.sound);
-    }
+    search (rules, (step_from_read d ds number place before promised step le sound e), (next_cells_sound d step.0 (step_from_read d ds number place before promised step le sound e).stands.sound))
 
 ended_read : (d : Dialect) (ds : List ℕ) (room number place : ℕ) (before : List ℕ) (promised : ℕ) (pages : List Page) → place ≤ length ds → is_due ds place promised ≡ false → length ds ≤ place → promised ≡ 0 → pages_at d ds room number place before promised ≡ Ok pages
     → ReadToEnd d ds room place before promised pages
@@ -159,8 +145,7 @@ pub record MeetsFault (d : Dialect) (ds : List ℕ) (room number place : ℕ) (b
 fault_here : (d : Dialect) (ds : List ℕ) (room number place : ℕ) (before : List ℕ) (promised : ℕ) (f : FumenFault) → place ≤ length ds → IsDue ds place promised
     → ((0 ≡ room) × (f ≡ TooManyPages)) ⊎ ((0 < room) × IsPageFault d ds number place before promised f)
     → MeetsFault d ds room number place before promised f
-fault_here d ds room number place before promised f le due (inl full) =
-    record { pages = []; k = place; cells = before; after = promised; stand = whole_none d ds place before promised le; due = due; fault = inl full }
+fault_here d ds room number place before promised f le due (inl full) = search (rules, (whole_none d ds place before promised le))
 fault_here d ds room number place before promised f le due (inr bad) =
     let here : number ≡ 0 + number = omega arith in
     record {

@@ -2,7 +2,6 @@
 use Rattle.std.proofs.Common.{◌≡◌, ℕ, zero, suc, ◌+◌, ◌-◌, ◌<◌, ◌≤◌, true, false, List, [], ◌∷◌, ◌++◌, length, Result, Ok, Err, sym, ap, subst, ◌∙◌, append_assoc, arith, rules}
 use Rattle.std.proofs.lemmas.List.{append-nil, length-append}
 use Rattle.pc_outside.specs.declared.answers.Refused.{Refused}
-use Rattle.pc_outside.specs.declared.answers.Refused.TheVariants as refused
 use Rattle.fumen_digits.specs.declared.dialect.Dialect.{Dialect}
 use Rattle.fumen_digits.specs.declared.fault.FumenFault.{FumenFault}
 use Rattle.fumen_digits.specs.declared.fault.FumenFault.TheVariants.{TooManyPages}
@@ -18,6 +17,7 @@ use Rattle.fumen_text.specs.Texts.{empty_page}
 use Rattle.fumen_text.specs.Reading.{page_cells_at, is_due, pages_at, reader, promise_at, next_page_at}
 use Rattle.fumen_text.proofs.PagesReadAsSpelled.{from_nothing, others_at, turn_due, turn_ended, turn_full, with_front}
 use Rattle.fumen_text.proofs.TextReadAsSpelled.{empty_sound}
+use Rattle.pc_outside.specs.declared.answers.Refused.TheVariants as refused
 
 -- ---- the cells of a page
 
@@ -47,14 +47,7 @@ pub record IsReadSoFar (d : Dialect) (ds : List ℕ) (most : ℕ) (pages : List 
       ≡ pages_at d ds most 1 0 empty_page 0
 
 pub read_starts : (d : Dialect) (ds : List ℕ) (most : ℕ) → IsReadSoFar d ds most [] (reader 0 empty_page 0)
-read_starts d ds most =
-    let all : most - 0 ≡ most = omega arith in
-    record {
-      within = omega arith;
-      sound = empty_sound d;
-      few = omega arith;
-      completes = from_nothing (pages_at d ds (most - 0) 1 0 empty_page 0) ∙ ap (λ (n : ℕ). pages_at d ds n 1 0 empty_page 0) all;
-    }
+read_starts d ds most = search (rules, (empty_sound d), (from_nothing (pages_at d ds (most - 0) 1 0 empty_page 0)))
 
 regroup : (pages : List Page) (page : Page) (read : Result (List Page) FumenFault) → with_front pages (read >>= λ others. Ok (page ∷ others)) ≡ with_front (pages ++ page ∷ []) read
 unfolding with_front
@@ -92,25 +85,13 @@ pub read_stops : (e : Refused FumenFault) (d : Dialect) (ds : List ℕ) (most co
     → IsRefusal (λ (f : FumenFault). f) e (pages_at d ds most 1 0 empty_page 0)
 unfolding with_front
 read_stops (refused.Fault f) d ds most count pages at due counted fewer read_counted s =
-    let read = subst (λ (n : ℕ). next_page_at d ds (n + 1) at.place at.cells at.promised ≡ Err f) counted read_counted in
-    let left = most - length pages - 1 in
-    let room : most - length pages ≡ suc left = omega arith in
-    let number = length pages + 1 in
-    let failed : pages_at d ds (most - length pages) number at.place at.cells at.promised ≡ Err f =
-    ap (λ (n : ℕ). pages_at d ds n number at.place at.cells at.promised) room
-    ∙ (turn_due d ds left number at.place at.cells at.promised due ∙ err_bind (next_page_at d ds number at.place at.cells at.promised) (λ x. others_at d ds left number x) f read) in
-    sym s.completes ∙ ap (λ (r : Result (List Page) FumenFault). with_front pages r) failed
+    search (rules, (turn_due d ds (most - length pages - 1) (length pages + 1) at.place at.cells at.promised due), (err_bind (next_page_at d ds (length pages + 1) at.place at.cells at.promised) (λ x. others_at d ds (most - length pages - 1) (length pages + 1) x) f))
 read_stops refused.NoMemory d ds most count pages at due counted fewer read s = tt
 
 pub read_full : (d : Dialect) (ds : List ℕ) (most count : ℕ) (pages : List Page) (at : PageReader) → is_due ds at.place at.promised ≡ true → count ≡ length pages → count ≡ most → IsReadSoFar d ds most pages at
     → pages_at d ds most 1 0 empty_page 0 ≡ Err TooManyPages
 unfolding with_front
-read_full d ds most count pages at due counted full s =
-    let none : most - length pages ≡ 0 = omega arith in
-    let number = length pages + 1 in
-    let failed : pages_at d ds (most - length pages) number at.place at.cells at.promised ≡ Err TooManyPages =
-    ap (λ (n : ℕ). pages_at d ds n number at.place at.cells at.promised) none ∙ turn_full d ds number at.place at.cells at.promised due in
-    sym s.completes ∙ ap (λ (r : Result (List Page) FumenFault). with_front pages r) failed
+read_full d ds most count pages at due counted full s = search (rules, (turn_full d ds (length pages + 1) at.place at.cells at.promised due))
 
 pub read_ends : (d : Dialect) (ds : List ℕ) (most : ℕ) (pages : List Page) (at : PageReader) → is_due ds at.place at.promised ≡ false → IsReadSoFar d ds most pages at → pages_at d ds most 1 0 empty_page 0 ≡ Ok pages
 unfolding with_front

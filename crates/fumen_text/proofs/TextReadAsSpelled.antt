@@ -1,5 +1,5 @@
 -- Whole texts: what is read is spelled by the text, and what the text spells is read; a fault is the first one in it.
-use Rattle.std.proofs.Common.{◌≡◌, ℕ, ◌+◌, ◌-◌, ◌≤◌, List, length, Option, Some, None, Result, Ok, Err, replicate, refl, sym, ap, subst, ◌∙◌, ◌⊎◌, inl, inr, arith, rules}
+use Rattle.std.proofs.Common.{◌≡◌, ℕ, ◌+◌, ◌-◌, ◌≤◌, List, length, Option, Some, None, Result, Ok, Err, replicate, refl, sym, ap, ◌∙◌, ◌⊎◌, inl, inr, arith, rules}
 use Rattle.std.specs.Prelude.{All}
 use Rattle.std.proofs.lemmas.List.{append-nil}
 use Rattle.std.proofs.lemmas.List.Elements.{All-replicate}
@@ -30,10 +30,7 @@ empty_sound V115 = record { size = refl; colours = no_colours 240; missing = ref
 -- ---- digits, with room for so many pages
 
 spells_from_read : (d : Dialect) (ds : List ℕ) (room : ℕ) (before : List ℕ) (pages : List Page) → AreCells d before → pages_at d ds room 1 0 before 0 ≡ Ok pages → SpellsFumen d before 0 pages ds × (length pages ≤ room)
-spells_from_read d ds room before pages sound e =
-    let read = pages_from_read d ds room 1 0 before 0 pages (omega arith) sound e in
-    let all = all_stands ds read.stand.text read.stand.stands in
-    (subst (λ (x : List ℕ). SpellsFumen d before 0 pages x) (sym all) (spells_from_whole d before 0 pages read.cells read.stand.text read.stand.spells), read.few)
+spells_from_read d ds room before pages sound e = search (rules, (pages_from_read d ds room 1 0 before 0 pages), (all_stands ds), (spells_from_whole d before 0 pages))
 
 read_from_spells : (d : Dialect) (ds : List ℕ) (room : ℕ) (before : List ℕ) (pages : List Page) → AreCells d before → SpellsFumen d before 0 pages ds → length pages ≤ room → pages_at d ds room 1 0 before 0 ≡ Ok pages
 unfolding with_front
@@ -56,9 +53,7 @@ done_text x y e = cc
 framed_read : (text : List ℕ) (framed : Option (Dialect × List ℕ)) (x : Dialect × List Page) → digits_in text ≡ framed → framed_pages framed ≡ Ok x → ReadsAs text x.0 x.1
 framed_read text None x is e = absurd cc
 framed_read text (Some (d, ds)) x is e =
-    let p = bind_ok (pages_of_digits d ds) (λ pages. with_dialect d pages) x e in
-    let spelled = spells_from_read d ds most_pages empty_page p.0 (empty_sound d) p.1 in
-    subst (λ (y : Dialect × List Page). ReadsAs text y.0 y.1) (done_text (d, p.0) x p.2) (record { ds = ds; framed = is; spelled = spelled.0; few = spelled.1 })
+    search (rules, (bind_ok (pages_of_digits d ds) (λ pages. with_dialect d pages) x e), done_text, (spells_from_read d ds most_pages empty_page), (empty_sound d))
 
 pub text_from_read : (text : List ℕ) (x : Dialect × List Page) → text_pages text ≡ Ok x → ReadsAs text x.0 x.1
 text_from_read text x e = framed_read text (digits_in text) x refl e
@@ -82,12 +77,7 @@ text_fault_from_read text f e = framed_fault text (digits_in text) f refl e
 pub read_from_text_fault : (text : List ℕ) (f : FumenFault) → IsTextFault text f → text_pages text ≡ Err f
 read_from_text_fault text f (inl none) = ap framed_pages none.0 ∙ ap (λ (x : FumenFault). Err x) (sym none.1)
 read_from_text_fault text f (inr bad) =
-    let d = bad.0 in
-    let ds = bad.1 in
-    let b = bad.3 in
-    let met : MeetsFault d ds most_pages 1 0 empty_page 0 f = record { pages = b.pages; k = b.k; cells = b.cells; after = b.promised; stand = b.stand; due = b.due; fault = b.fault } in
-    ap framed_pages bad.2
-    ∙ err_bind (pages_of_digits d ds) (λ pages. with_dialect d pages) f (read_from_fault d ds most_pages 1 0 empty_page 0 f (empty_sound d) met)
+    search (rules, (err_bind (pages_of_digits bad.0 bad.1) (λ pages. with_dialect bad.0 pages) f), (read_from_fault bad.0 bad.1 most_pages 1 0 empty_page 0 f (empty_sound bad.0)))
 
 -- ---- one reading of each text
 
@@ -98,8 +88,7 @@ text_is_read text (Err f) e = inr (f, text_fault_from_read text f e)
 
 pub one_list : (text : List ℕ) (d : Dialect) (pages : List Page) (other : Dialect) (others : List Page) → ReadsAs text d pages → ReadsAs text other others → (d ≡ other) × (pages ≡ others)
 one_list text d pages other others one two =
-    let same = done_text (d, pages) (other, others) (sym (read_from_text text d pages one) ∙ read_from_text text other others two) in
-    (ap (λ (x : Dialect × List Page). x.0) same, ap (λ (x : Dialect × List Page). x.1) same)
+    search (rules, (done_text (d, pages) (other, others) (sym (read_from_text text d pages one) ∙ read_from_text text other others two)))
 
 pub one_fault : (text : List ℕ) (f g : FumenFault) → IsTextFault text f → IsTextFault text g → f ≡ g
 one_fault text f g one two =

@@ -38,22 +38,7 @@ pub whole_more : (d : Dialect) (ds : List ℕ) (place : ℕ) (before : List ℕ)
     → PagesStand d ds place before promised (page ∷ pages) k cells after
 unfolding SpellsWhole
 whole_more d ds place before promised page end between pages k cells after one others =
-    let tail = Stands-then ds one.middle one.tail.text end others.text k one.tail.stands others.stands in
-    record {
-      text = one.cells.text ++ (one.tail.text ++ others.text);
-      stands = Stands-then ds place one.cells.text one.middle (one.tail.text ++ others.text) k one.cells.stands tail;
-      spells = (
-        between,
-        one.sound,
-        record {
-          front = one.cells.text;
-          back = one.tail.text ++ others.text;
-          divided = refl;
-          one = one.cells.spells;
-          other = record { front = one.tail.text; back = others.text; divided = refl; one = one.tail.spells; other = others.spells };
-        },
-      );
-    }
+    search (rules, (Stands-then ds place one.cells.text one.middle (one.tail.text ++ others.text) k one.cells.stands (Stands-then ds one.middle one.tail.text end others.text k one.tail.stands others.stands)))
 
 -- where whole pages stand, the first one does, and the others behind it
 pub record FirstPage (d : Dialect) (ds : List ℕ) (place : ℕ) (before : List ℕ) (promised : ℕ) (page : Page) (pages : List Page) (k : ℕ) (cells : List ℕ) (after : ℕ) : Type 0 where
@@ -93,28 +78,14 @@ whole_empty d ds place before promised k cells after s = search rules
 
 -- what holds behind no pages holds before them
 pub whole_nothing : (P : ℕ → List ℕ → ℕ → Type 0) (d : Dialect) (ds : List ℕ) (place : ℕ) (before : List ℕ) (promised k : ℕ) (cells : List ℕ) (after : ℕ) → PagesStand d ds place before promised [] k cells after → P k cells after → P place before promised
-whole_nothing P d ds place before promised k cells after s p =
-    let same = whole_empty d ds place before promised k cells after s in
-    subst (λ (x : ℕ). P x before promised) same.0 (subst (λ (x : List ℕ). P k x promised) same.1 (subst (λ (x : ℕ). P k cells x) same.2 p))
+whole_nothing P d ds place before promised k cells after s p = search (rules, (whole_empty d ds place before promised k cells after s))
 
 -- ---- pages up to the end of the digits
 
 pub spells_from_whole : (d : Dialect) (before : List ℕ) (promised : ℕ) (pages : List Page) (cells text : List ℕ) → SpellsWhole d before promised pages cells 0 text → SpellsFumen d before promised pages text
 unfolding SpellsFumen SpellsWhole
 spells_from_whole d before promised [] cells text s = (sym s.1, s.2)
-spells_from_whole d before promised (page ∷ pages) cells text s =
-    let head = s.2 in
-    let tail = head.other in (
-      s.0,
-      s.1,
-      record {
-        front = head.front;
-        back = head.back;
-        divided = head.divided;
-        one = head.one;
-        other = record { front = tail.front; back = tail.back; divided = tail.divided; one = tail.one; other = spells_from_whole d (next d page) s.0 pages cells tail.back tail.other };
-      },
-    )
+spells_from_whole d before promised (page ∷ pages) cells text s = search (rules, (spells_from_whole d (next d page) s.0 pages cells s.2.other.back s.2.other.other))
 
 pub whole_from_spells : (d : Dialect) (before : List ℕ) (promised : ℕ) (pages : List Page) (text : List ℕ) → SpellsFumen d before promised pages text → (cells : List ℕ) × SpellsWhole d before promised pages cells 0 text
 unfolding SpellsFumen SpellsWhole

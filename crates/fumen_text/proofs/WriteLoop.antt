@@ -32,8 +32,7 @@ unchanged_stops d before pages i count total page lt is e few s =
 pub unchanged_more : (d : Dialect) (before : List ℕ) (pages : List Page) (i count total : ℕ) (page : Page) → i < length pages → page ≡ get_or pages i page → keeps before page ≡ true → count < 63
     → min 63 (count + unchanged_pages d before (drop i pages)) ≡ total
     → (count + 1 ≤ 63) × (min 63 (count + 1 + unchanged_pages d (next d page) (drop (i + 1) pages)) ≡ total)
-unchanged_more d before pages i count total page lt is e few s =
-    let one = one_unchanged d before pages i page true lt is e in (omega arith, omega (arith, one))
+unchanged_more d before pages i count total page lt is e few s = search (rules, (one_unchanged d before pages i page true lt is e))
 
 pub unchanged_ends : (d : Dialect) (before : List ℕ) (pages : List Page) (i count total : ℕ) → length pages ≤ i → count ≤ 63 → min 63 (count + unchanged_pages d before (drop i pages)) ≡ total → count ≡ total
 unfolding unchanged_pages

@@ -1,12 +1,11 @@
 -- Pages without a fault can be written, and what is written reads as them.
-use Rattle.std.proofs.Common.{◌≡◌, ℕ, ◌+◌, ◌*◌, ◌<◌, ◌≤◌, Bool, true, cond, not, eqb, leb, ltb, List, [], ◌∷◌, length, take, replicate, drop, Option, Some, None, Err, get_or, refl, sym, ap, subst, ◌∙◌, inl, inr, arith, rules}
+use Rattle.std.proofs.Common.{◌≡◌, ℕ, ◌+◌, ◌*◌, ◌<◌, ◌≤◌, Bool, true, cond, not, eqb, leb, ltb, List, [], ◌∷◌, length, take, replicate, drop, Option, Some, None, Err, get_or, refl, ap, ◌∙◌, arith, rules}
 use Rattle.std.specs.Prelude.{All}
 use Rattle.std.specs.List.{AllByRecursion, list_all}
 use Rattle.std.specs.Option.{ForSome, option_or, option_map_or}
 use Rattle.std.proofs.lemmas.Bool.{and_parts, eqb-true, cases_lt, lt-ltb, le-ltb, le-leb, leb-true}
 use Rattle.std.proofs.lemmas.List.{length-append, length-take, drop_more, drop_all, get_or_default}
 use Rattle.pc_outside.specs.declared.answers.Refused.{Refused}
-use Rattle.pc_outside.specs.declared.answers.Refused.TheVariants as refused
 use Rattle.std.proofs.lemmas.List.Elements.{recursion_from_All}
 use Rattle.std.proofs.lemmas.List.Sums.{AllPass-from_list_all}
 use Rattle.fumen_digits.specs.declared.dialect.Dialect.{Dialect}
@@ -16,11 +15,12 @@ use Rattle.fumen_pages.specs.declared.page.Page.{Page}
 use Rattle.fumen_pages.specs.Cells.{IsColour, missing_count}
 use Rattle.fumen_pages.specs.Action.{is_inside_in}
 use Rattle.fumen_pages.specs.declared.encode_fault.EncodeFault.{EncodeFault}
-use Rattle.fumen_pages.specs.declared.encode_fault.EncodeFault.TheVariants as fault
 use Rattle.fumen_text.specs.Texts.{ReadsAs, empty_page, most_pages}
 use Rattle.fumen_text.specs.Written.{IsRefusedBy, HasTypes, IsWritable, is_short, list_encode_fault, page_encode_fault, pages_digits, pages_encode_fault, written}
 use Rattle.fumen_text.proofs.TextReadAsSpelled.{empty_sound}
 use Rattle.fumen_text.proofs.WrittenIsSpelled.{pages_are_digits, pages_spell}
+use Rattle.pc_outside.specs.declared.answers.Refused.TheVariants as refused
+use Rattle.fumen_pages.specs.declared.encode_fault.EncodeFault.TheVariants as fault
 
 -- no fault: the test holds, and there is none behind it
 passes : (b : Bool) (f : EncodeFault) (rest : Option EncodeFault) → cond (not b) (Some f) rest ≡ None → (b ≡ true) × (rest ≡ None)
@@ -46,9 +46,7 @@ short_escaped units few = search (rules, length-escaped, le-leb)
 
 all_empty : (cells : List ℕ) → list_all (λ cell. eqb cell 0) cells ≡ true → cells ≡ replicate (length cells) 0
 all_empty [] e = refl
-all_empty (cell ∷ cells) e =
-    let both = and_parts (eqb cell 0) (list_all (λ c. eqb c 0) cells) e in
-    ap (λ (x : ℕ). x ∷ cells) (eqb-true cell 0 both.0) ∙ ap (λ (xs : List ℕ). 0 ∷ xs) (all_empty cells both.1)
+all_empty (cell ∷ cells) e = search (rules, (and_parts (eqb cell 0) (list_all (λ c. eqb c 0) cells) e), (eqb-true cell 0), (all_empty cells))
 
 all_colours : (cells : List ℕ) → list_all (λ cell. leb cell 8) cells ≡ true → All IsColour cells
 all_colours cells e = λ i d lt. leb-true (get_or cells i d) 8 (AllPass-from_list_all (λ cell. leb cell 8) cells e i d lt)
@@ -91,12 +89,7 @@ few_pages n most rest e = search (rules, cases_lt, lt-ltb, le-ltb)
 
 fit_reads : (d : Dialect) (pages : List Page) → AllByRecursion (IsWritable d) pages → length pages ≤ most_pages → ReadsAs (written d pages) d pages
 fit_reads d pages fit few =
-    record {
-      ds = pages_digits d empty_page 0 pages;
-      framed = digits_in-broken d (pages_digits d empty_page 0 pages) (pages_are_digits d empty_page 0 pages);
-      spelled = pages_spell d empty_page 0 pages (empty_sound d) fit (omega arith);
-      few = few;
-    }
+    search (rules, (digits_in-broken d (pages_digits d empty_page 0 pages) (pages_are_digits d empty_page 0 pages)), (pages_spell d empty_page 0 pages (empty_sound d) fit))
 
 pub written_reads : (d : Dialect) (pages : List Page) → AllByRecursion HasTypes pages → list_encode_fault d pages ≡ None → ReadsAs (written d pages) d pages
 written_reads d pages types e = search (rules, few_pages, fit_reads, no_faults)
@@ -122,27 +115,15 @@ one_left d pages i page lt is = search (rules, drop_more)
 
 fit_more : (d : Dialect) (pages : List Page) (i : ℕ) (page : Page) → i < length pages → page ≡ get_or pages i page → IsWritable d page → ((k : ℕ) (other : Page) → k < i → IsWritable d (get_or pages k other))
     → (k : ℕ) (other : Page) → k < i + 1 → IsWritable d (get_or pages k other)
-fit_more d pages i page lt is fit others k other below =
-    elim (cases_lt k i) [
-      | inl before ↦ others k other before
-      | inr le ↦
-          let here : i ≡ k = omega arith in
-          subst (λ (n : ℕ). IsWritable d (get_or pages n other)) here (subst (λ (x : Page). IsWritable d x) (is ∙ get_or_default pages i page other lt) fit)
-    ]
+fit_more d pages i page lt is fit others k other below = search (rules, (cases_lt k i), (get_or_default pages i page other lt))
 
 pub check_more : (d : Dialect) (pages : List Page) (i : ℕ) (page : Page) → i < length pages → page ≡ get_or pages i page → page_encode_fault d (i + 1) page ≡ None → IsWritable d page → IsCheckedSoFar d pages i
     → IsCheckedSoFar d pages (i + 1)
-check_more d pages i page lt is none fit s =
-    record {
-      fit = fit_more d pages i page lt is fit s.fit;
-      left = sym (one_left d pages i page lt is ∙ ap (λ (o : Option EncodeFault). option_or o (pages_encode_fault d (i + 1 + 1) (drop (i + 1) pages))) none) ∙ s.left;
-    }
+check_more d pages i page lt is none fit s = search (rules, (fit_more d pages i page lt is fit s.fit), (one_left d pages i page lt is))
 
 pub check_stops : (e : Refused EncodeFault) (d : Dialect) (pages : List Page) (i : ℕ) (page : Page) → i < length pages → length pages ≤ most_pages → page ≡ get_or pages i page → IsRefusedBy {X = Unit {0}} (Err e) (page_encode_fault d (i + 1) page) → IsCheckedSoFar d pages i
     → IsRefusedBy {X = Unit {0}} (Err e) (list_encode_fault d pages)
-check_stops (refused.Fault f) d pages i page lt few is found s =
-    ap (λ (b : Bool). cond b (Some fault.TooManyPages) (pages_encode_fault d 1 pages)) (le-ltb most_pages (length pages) few)
-    ∙ (sym s.left ∙ (one_left d pages i page lt is ∙ ap (λ (o : Option EncodeFault). option_or o (pages_encode_fault d (i + 1 + 1) (drop (i + 1) pages))) found))
+check_stops (refused.Fault f) d pages i page lt few is found s = search (rules, (le-ltb most_pages (length pages) few), (one_left d pages i page lt is))
 check_stops refused.NoMemory d pages i page lt few is found s = tt
 
 pub check_ends : (d : Dialect) (pages : List Page) (i : ℕ) → i ≡ length pages → length pages ≤ most_pages → IsCheckedSoFar d pages i → (list_encode_fault d pages ≡ None) × All (IsWritable d) pages

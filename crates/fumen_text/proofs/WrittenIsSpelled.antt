@@ -80,17 +80,4 @@ pub pages_spell : (d : Dialect) (before : List ℕ) (promised : ℕ) (pages : Li
 unfolding pages_digits unchanged_pages SpellsFumen
 pages_spell d before promised [] sound each kept = (omega (arith, kept), refl)
 pages_spell d before promised (page ∷ pages) sound each kept =
-    let fit = each.0 in
-    let after = promised_behind d before promised page pages in
-    let first = first_written d before promised page pages sound fit.sound.cells kept in
-    let others = pages_spell d (next d page) after pages (next_cells_sound d page fit.sound) each.1 first.kept in (
-      after,
-      fit.sound,
-      record {
-        front = cells_digits d before promised page after;
-        back = tail_digits d page ++ pages_digits d (next d page) after pages;
-        divided = refl;
-        one = first.spells;
-        other = record { front = tail_digits d page; back = pages_digits d (next d page) after pages; divided = refl; one = tail_spells d page fit; other = others };
-      },
-    )
+    search (rules, (pages_spell d (next d page) (promised_behind d before promised page pages) pages (next_cells_sound d page each.0.sound) each.1 (first_written d before promised page pages sound each.0.sound.cells kept).kept), (first_written d before promised page pages sound each.0.sound.cells kept), (tail_spells d page each.0))

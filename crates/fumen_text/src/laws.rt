@@ -22,6 +22,7 @@ pub fn one_reading()
 {}
 
 /// What is written reads as the pages: every list that `encode` doesn't refuse is what `decode` reads in its text.
+#[tactic(auto, using(crate::proofs::WrittenIsRead::written_reads))]
 pub fn encode_undone()
     ensures { (dialect : Dialect) (pages : List Page) → AllByRecursion HasTypes pages →
         list_encode_fault dialect pages ≡ None →

@@ -49,6 +49,7 @@ pub fn encode(
 }
 
 /// The digits of all pages.
+#[tactic(auto, using(crate::proofs::WriteLoop::write_ends))]
 fn write_pages(alloc: Global, dialect: Dialect, pages: &[Page]) -> Result<Vec<u8>, NoMemory>
     requires { All (IsWritable dialect) pages.now }
     ensures { IfOk result (λ digits. digits.items ≡ pages_digits dialect empty_page 0 pages.now) }

@@ -1,5 +1,5 @@
 -- The search for a key word, turn by turn: what is found and marked, and the key word that it ends with.
-use Rattle.std.proofs.Common.{◌≡◌, ℕ, ◌+◌, ◌-◌, ◌≤◌, true, false, Option, Some, None, List, [], ◌∷◌, ◌++◌, length, map, drop, refl, sym, ap, subst, ◌∙◌, inl, inr, arith, rules}
+use Rattle.std.proofs.Common.{◌≡◌, ℕ, ◌+◌, ◌≤◌, true, false, Option, Some, None, List, [], ◌∷◌, ◌++◌, length, map, drop, refl, sym, ap, subst, ◌∙◌, inl, inr, arith, rules}
 use Rattle.std.specs.Prelude.{Contains, replicate, reverse, slice_get}
 use Rattle.std.specs.List.{count_by}
 use Rattle.std.proofs.lemmas.Bool.{false≢true, cond-true, cond-false}
@@ -25,10 +25,9 @@ use Rattle.key_path.specs.declared.marks.Mark.{Mark}
 use Rattle.key_path.specs.declared.marks.Mark.TheVariants.{Unseen, Start, From}
 use Rattle.key_path.specs.KeyWords.{key_place}
 use Rattle.key_path.specs.LeastKeyWord.{IsLeastKeyWord}
-use Rattle.moves.specs.States.{IsPivot}
 use Rattle.key_path.specs.Marks.{with_mark, is_unseen, Traces, new_state}
 use Rattle.key_path.proofs.WordLemmas.{not_earlier, not_after-front}
-use Rattle.key_path.specs.Search.{Item, with_key, AreFound, IsAhead, IsPressed, AreMarked, IsFinding, IsTrying, LeadsBack}
+use Rattle.key_path.specs.Search.{Item, with_key, AreFound, IsPressed, AreMarked, IsFinding, IsTrying, LeadsBack}
 use Rattle.key_path.proofs.SearchLemmas.{sought_first, ahead_first, taken, pressed_again, pressed_new, sought_new, sought_next, ahead_next, all_found, found_before}
 use Rattle.key_path.proofs.MarkLemmas.{noted_first, noted_new, traces_once, room_left, count_marked}
 use Rattle.key_path.proofs.KeyWordLemmas.{least_is_short}
@@ -65,33 +64,12 @@ module _ (table : Table) (F : Field) (mode : DropMode) (target : Placement) wher
 
   -- where the spawn comes to rest there, the key word with no key is the least
   pub spawn_word : is_free F (spawn_of target.piece) ≡ true → comes_to_rest F target (spawn_of target.piece) ≡ true → IsLeastKeyWord table F mode target (Some [])
-  spawn_word free rests = record {
-    member = from_tests table F mode [] target (record { state = spawn_of target.piece; leads = record { each = refl; reached = spawned-some F target free }; rests = rests });
-    above = refl;
-    least = λ other leads above less. not_earlier [] other (not_after-front [] other) less;
-  }
+  spawn_word free rests = search (rules, (from_tests table F mode [] target), (spawned-some F target free), (not_earlier []), (not_after-front []))
 
   pub finding_first : (marks : List Mark) (waiting : List Placement) → is_free F (spawn_of target.piece) ≡ true → comes_to_rest F target (spawn_of target.piece) ≡ false →
       marks ≡ with_mark (replicate 920 Unseen) (spawn_of target.piece) Start → waiting ≡ spawn_of target.piece ∷ [] → IsFinding table F mode target marks waiting
-  finding_first marks waiting free misses set alone = record {
-    items = start ∷ [];
-    front = start ∷ [];
-    states = alone;
-    few = omega arith;
-    sought = sought_first (step_of table F) (allows mode) (spawn_of target.piece);
-    ahead = ahead_first (step_of table F) (allows mode) (spawn_of target.piece);
-    noted = subst (λ marks. AreMarked marks (start ∷ [])) (sym set) (noted_first (spawn_of target.piece) pivot);
-    misses = λ x among. elim (Contains-cases start [] x among) [
-      | inl here ↦ subst (λ x. comes_to_rest F target x.state ≡ false) here misses
-      | inr none ↦ absurd (Contains-none x none)
-    ];
-  }
-    where
-      start : Item
-      start = record { state = spawn_of target.piece; word = [] }
-
-      pivot : IsPivot (spawn_of target.piece)
-      pivot = record { in_columns = omega arith; in_rows = omega arith }
+  finding_first marks waiting free misses set alone =
+      search (rules, (sought_first (step_of table F) (allows mode) (spawn_of target.piece)), (ahead_first (step_of table F) (allows mode) (spawn_of target.piece)), (noted_first (spawn_of target.piece)), Contains-cases, Contains-none)
 
   -- the first state that waits is taken
   pub trying_first : (marks : List Mark) (waiting rest : List Placement) (state : Placement) → slice_get waiting 0 ≡ Some state → rest ≡ drop 1 waiting → IsFinding table F mode target marks waiting → IsTrying table F mode target marks rest state 0
@@ -99,33 +77,12 @@ module _ (table : Table) (F : Field) (mode : DropMode) (target : Placement) wher
     where
       by_front : (front : List Item) → finding.front ≡ front → IsTrying table F mode target marks rest state 0
       by_front [] e = absurd (not_some (sym (ap (λ xs. slice_get xs 0) (finding.states ∙ ap (map (λ (x : Item). x.state)) e)) ∙ head))
-      by_front (x ∷ front) e =
-          let states : waiting ≡ x.state ∷ map (λ (x : Item). x.state) front = finding.states ∙ ap (map (λ (x : Item). x.state)) e in
-          record {
-            items = finding.items;
-            x = x;
-            front = front;
-            at = some_same (sym (ap (λ xs. slice_get xs 0) states) ∙ head);
-            states = tail ∙ ap (drop 1) states;
-            few = omega (arith, finding.few, ap (λ (xs : List Item). length xs) e);
-            sought = subst (AreFound (step_of table F) (allows mode) (spawn_of target.piece) finding.items) e finding.sought;
-            pressed = taken (step_of table F) (allows mode) (spawn_of target.piece) finding.items x front (subst (IsAhead (step_of table F) (allows mode) (spawn_of target.piece) finding.items) e finding.ahead);
-            noted = finding.noted;
-            misses = finding.misses;
-          }
+      by_front (x ∷ front) e = search (rules, some_same, (taken (step_of table F) (allows mode) (spawn_of target.piece) finding.items x))
 
   -- when all keys were tried, the next is to be taken
   pub finding_next : (marks : List Mark) (waiting : List Placement) (state : Placement) → IsTrying table F mode target marks waiting state 5 → IsFinding table F mode target marks waiting
-  finding_next marks waiting state trying = record {
-    items = trying.items;
-    front = trying.front;
-    states = trying.states;
-    few = omega (arith, trying.few);
-    sought = sought_next (step_of table F) (allows mode) (spawn_of target.piece) trying.items trying.x trying.front trying.sought trying.pressed;
-    ahead = ahead_next (step_of table F) (allows mode) (spawn_of target.piece) trying.items trying.x trying.front trying.sought trying.pressed;
-    noted = trying.noted;
-    misses = trying.misses;
-  }
+  finding_next marks waiting state trying =
+      search (rules, (sought_next (step_of table F) (allows mode) (spawn_of target.piece) trying.items trying.x trying.front trying.sought trying.pressed), (ahead_next (step_of table F) (allows mode) (spawn_of target.piece) trying.items trying.x trying.front trying.sought trying.pressed))
 
   -- each state that was found is a free state of the piece
   found_free : is_free F (spawn_of target.piece) ≡ true → (items front : List Item) → AreFound (step_of table F) (allows mode) (spawn_of target.piece) items front → (x : Item) → Contains items x → IsFreeState F target.piece x.state
@@ -196,23 +153,17 @@ module _ (table : Table) (F : Field) (mode : DropMode) (target : Placement) wher
   pub new_counts : (marks marks' : List Mark) (waiting : List Placement) (state : Placement) (n : ℕ) (key : Key) (t : Placement) → new_state table F mode marks state key ≡ Some t → marks' ≡ with_mark marks t (From state key) → IsTrying table F mode target marks waiting state n →
       count_by is_unseen marks' + 1 ≡ count_by is_unseen marks
   new_counts marks marks' waiting state n key t found set trying =
-      let new : IsNew table F mode marks state key t = new_is table F mode marks state key t found in
-      subst (λ m. count_by is_unseen m + 1 ≡ count_by is_unseen marks) (sym set) (count_marked marks t (From state key) trying.noted.size (pivot_of_free F t (step_of-free table F state key t new.moves).free) new.unseen refl)
+      search (rules, (new_is table F mode marks state key t found), (count_marked marks t (From state key) trying.noted.size), (pivot_of_free F t), (step_of-free table F state key t))
 
   -- it is a free state of the piece
   pub new_free : is_free F (spawn_of target.piece) ≡ true → (marks : List Mark) (waiting : List Placement) (state : Placement) (n : ℕ) (key : Key) (t : Placement) → new_state table F mode marks state key ≡ Some t → IsTrying table F mode target marks waiting state n → IsFreeState F target.piece t
   new_free free marks waiting state n key t found trying =
-      let after = step_of-free table F state key t (new_is table F mode marks state key t found).moves in
-      let before = found_free free trying.items (trying.x ∷ trying.front) trying.sought trying.x (trying.sought.among trying.x (Contains-here trying.x trying.front)) in
-      record { kind = after.kind ∙ ap (λ (s : Placement). s.piece) (sym trying.at) ∙ before.kind; free = after.free }
+      search (rules, (found_free free trying.items (trying.x ∷ trying.front) trying.sought trying.x (trying.sought.among trying.x (Contains-here trying.x trying.front))), (step_of-free table F state key t (new_is table F mode marks state key t found).moves))
 
   -- there is room for it
   pub new_fits : (marks : List Mark) (waiting : List Placement) (state : Placement) (n : ℕ) (key : Key) (t : Placement) → new_state table F mode marks state key ≡ Some t → IsTrying table F mode target marks waiting state n → length (waiting ++ t ∷ []) ≤ 920
   new_fits marks waiting state n key t found trying =
-      let new : IsNew table F mode marks state key t = new_is table F mode marks state key t found in
-      let pivot = pivot_of_free F t (step_of-free table F state key t new.moves).free in
-      let room = room_left marks trying.items t pivot new.unseen trying.noted in
-      omega (arith, room, trying.few, length-append waiting (t ∷ []), ap (λ (xs : List Placement). length xs) trying.states, length-map trying.front (λ (x : Item). x.state))
+      search (rules, (new_is table F mode marks state key t found), (room_left marks trying.items t), (pivot_of_free F t), (step_of-free table F state key t), (length-append waiting (t ∷ [])), (length-map trying.front (λ (x : Item). x.state)))
 
   -- a key that leads to a new state which comes to rest there
   pub new_reached : is_free F (spawn_of target.piece) ≡ true → (marks marks' : List Mark) (waiting : List Placement) (state : Placement) (n : ℕ) (key : Key) (t : Placement) → key_place key ≡ n → new_state table F mode marks state key ≡ Some t →

@@ -1,5 +1,5 @@
 -- Key words exist where any key word leads there, are one, have fewer keys than a piece has states, and are what `least_key_word` finds.
-use Rattle.std.proofs.Common.{◌≡◌, ℕ, zero, suc, ◌<◌, Bool, true, IsTrue, Option, Some, None, List, [], ◌∷◌, length, get_or, map, refl, sym, ap, subst, ◌∙◌, inl, inr, arith, rules}
+use Rattle.std.proofs.Common.{◌≡◌, ℕ, zero, suc, ◌<◌, Bool, true, IsTrue, Option, Some, None, List, [], ◌∷◌, length, map, refl, sym, ap, subst, ◌∙◌, inl, inr, arith, rules}
 use Rattle.std.specs.Prelude.{Contains, find, filter, is_some}
 use Rattle.std.specs.List.{range_with_len}
 use Rattle.std.specs.List.Sorted.{IsStrictlySortedBy}
@@ -12,7 +12,6 @@ use Rattle.srs.specs.Kick.{Table}
 use Rattle.srs.specs.Rising.{is_above, IsNextAbove, IsRisingListOf}
 use Rattle.srs.proofs.CallerLemmas.{Contains-here, Contains-cases, Contains-none, Contains-flat_map, Contains-from_flat_map, Contains-map, Contains-from_map, Contains-range, range-from, find-true, find-false, filter-true, filter-false, rising-none, rising-cons, rising-flat_map, rising-map, rising-range, find-next_of, IsNextAbove-unique, IsRisingListOf-filter, less_is_below}
 use Rattle.moves.specs.declared.key.Key.{Key}
-use Rattle.moves.specs.declared.key.Key.TheVariants.{Left, Right, Down, Clockwise, Anti}
 use Rattle.moves.specs.declared.key.DropMode.{DropMode}
 use Rattle.moves.specs.Keys.{all_keys, allows}
 use Rattle.moves.specs.Step.{step_of}
@@ -21,7 +20,7 @@ use Rattle.moves.specs.Place.{LeadsToRest, IsPlace}
 use Rattle.moves.specs.PlaceTest.{leads_to_rest}
 use Rattle.moves.proofs.CallerLemmas.{IsFreeState, leads_to_rest-decides, from_tests, short_keys, spawned-free, step_is_finite, to_tests}
 use Rattle.moves.specs.States.{state_code}
-use Rattle.key_path.specs.KeyWords.{key_place, key_cmp, key_word_cmp, key_words_of, key_words_below}
+use Rattle.key_path.specs.KeyWords.{key_cmp, key_word_cmp, key_words_of, key_words_below}
 use Rattle.key_path.specs.LeastKeyWord.{IsLeastKeyWord, least_key_word}
 use Rattle.key_path.proofs.WordLemmas.{key_place-small, shorter_before, not_both, more_first, first_key, word_cmp-total, word_cmp-antisymmetric}
 
@@ -51,14 +50,7 @@ has_length (suc n) word among =
     sym (ap (λ (w : List Key). length w) rest.2) ∙ ap suc (has_length n rest.0 rest.1)
 
 among_keys : (key : Key) → Contains all_keys key
-among_keys key = (key_place key, key_place-small key, key_at-place' key)
-  where
-    key_at-place' : (key : Key) → get_or all_keys (key_place key) key ≡ key
-    key_at-place' Left = refl
-    key_at-place' Right = refl
-    key_at-place' Down = refl
-    key_at-place' Clockwise = refl
-    key_at-place' Anti = refl
+among_keys key = search (rules, (key_place-small key))
 
 has_word : (word : List Key) → Contains (key_words_of (length word)) word
 unfolding key_words_of
@@ -120,14 +112,7 @@ key_word-is table F mode target =
           let few = few_keys table F mode target word leads in
           next.none few.0 (few.2, (leads_to_rest-decides table F mode target few.0).1 few.1) refl;
     }
-    over (Some word) next = record {
-      member = (leads_to_rest-decides table F mode target word).0 next.member.1;
-      above = refl;
-      least = λ other leads above less. elim (cases_lt (length other) 920) [
-        | inl below ↦ next.least other (below, (leads_to_rest-decides table F mode target other).1 leads) refl less
-        | inr long ↦ not_both word other (shorter_before word other (omega (arith, next.member.0, long))) less
-      ];
-    }
+    over (Some word) next = search (rules, (leads_to_rest-decides table F mode target word), cases_lt, next.least, (leads_to_rest-decides table F mode target), (not_both word), (shorter_before word))
 
 pub is_key_word : (table : Table) (F : Field) (mode : DropMode) (target : Placement) (a : Option (List Key)) → IsLeastKeyWord table F mode target a → a ≡ least_key_word table F mode target
 is_key_word table F mode target a is = key_word_unique table F mode target a (least_key_word table F mode target) is (key_word-is table F mode target)

@@ -22,12 +22,7 @@ pub traces_once : (marks : List Mark) (s : Placement) (keys others : List Key) �
 traces_once marks s [] [] one other = refl
 traces_once marks s [] (l ∷ ls) one other = let e : Start ≡ From other.0 l = sym one ∙ other.1 in absurd cc
 traces_once marks s (k ∷ ks) [] one other = let e : From one.0 k ≡ Start = sym one.1 ∙ other in absurd cc
-traces_once marks s (k ∷ ks) (l ∷ ls) one other =
-    let e : From one.0 k ≡ From other.0 l = sym one.1 ∙ other.1 in
-    let from : one.0 ≡ other.0 = cc in
-    let key : k ≡ l = cc in
-    let rest = traces_once marks one.0 ks ls one.3 (subst (λ p. Traces marks p ls) (sym from) other.3) in
-    λ i. key i ∷ rest i
+traces_once marks s (k ∷ ks) (l ∷ ls) one other = search (rules, (traces_once marks one.0 ks ls one.3))
 
 -- a mark that was set is there, and the others stay
 mark_here : (marks : List Mark) (s : Placement) (mark : Mark) → length marks ≡ 920 → IsPivot s → mark_at (with_mark marks s mark) s ≡ mark
@@ -141,8 +136,7 @@ pub record IsPassed (marks : List Mark) (from : Placement) (passed keys : List K
 
 pub one_passed : (marks : List Mark) (s from : Placement) (key : Key) (passed more keys : List Key) → mark_at marks s ≡ From from key → more ≡ passed ++ key ∷ [] → IsPassed marks s passed keys → IsPassed marks from more keys
 one_passed marks s from key passed more keys at e way =
-    let back = one_back marks s from key way.rest at way.traces in
-    record { rest = back.rest; traces = back.traces; is = way.is ∙ ap (λ ks. passed ++ ks) back.is ∙ sym (append_assoc passed (key ∷ []) back.rest) ∙ ap (λ w. w ++ back.rest) (sym e) }
+    search (rules, (one_back marks s from key way.rest), (append_assoc passed (key ∷ []) (one_back marks s from key way.rest at way.traces).rest))
 
 pub passed_few : (marks : List Mark) (s from : Placement) (key : Key) (passed keys : List Key) → mark_at marks s ≡ From from key → IsPassed marks s passed keys → length passed < length keys
 passed_few marks s from key passed keys at way = grind (arith, common_steps, one_back, length-append)

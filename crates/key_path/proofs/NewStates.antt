@@ -1,5 +1,5 @@
 -- The state to which a key leads, by whether the key is allowed, makes a move, and leads to an unseen state.
-use Rattle.std.proofs.Common.{◌≡◌, Bool, true, false, Option, Some, None, List, refl, sym, ap, subst, ◌∙◌, inl, inr}
+use Rattle.std.proofs.Common.{◌≡◌, Bool, true, false, Option, Some, None, List, refl, sym, ap, ◌∙◌, inl, inr, rules}
 use Rattle.std.specs.Bool.{then_some}
 use Rattle.std.specs.Prelude.{option_and_then}
 use Rattle.std.proofs.lemmas.Bool.{cases_Bool, cond-true, cond-false}
@@ -53,13 +53,8 @@ module _ (table : Table) (F : Field) (mode : DropMode) (marks : List Mark) (s : 
     where
       by_step : allows mode key ≡ true → (o : Option Placement) → step_of table F s key ≡ o → option_and_then where_unseen o ≡ Some t → IsNew t
       by_step may None moves e = absurd (not_some e)
-      by_step may (Some u) moves e =
-          let parts = some_from (is_unseen (mark_at marks u)) u t e in
-          record { may = may; moves = moves ∙ ap Some parts.1; unseen = subst (λ u. is_unseen (mark_at marks u) ≡ true) parts.1 parts.0 }
+      by_step may (Some u) moves e = search (rules, some_from)
 
   -- where there is none, a state that an allowed key leads to was seen
   pub none_new : new_state table F mode marks s key ≡ None → (t : Placement) → allows mode key ≡ true → step_of table F s key ≡ Some t → is_unseen (mark_at marks t) ≡ false
-  none_new none t may moves = elim (cases_Bool (is_unseen (mark_at marks t))) [
-    | inr seen ↦ seen
-    | inl unseen ↦ absurd (not_some (sym none ∙ sym (new_move t may moves) ∙ ap (λ b. then_some b t) unseen))
-  ]
+  none_new none t may moves = search (rules, (cases_Bool (is_unseen (mark_at marks t))), not_some, (new_move t may moves))

@@ -1,5 +1,5 @@
 -- A search for states, the lesser key words first: what it has found, and that nothing before it is left out.
-use Rattle.std.proofs.Common.{◌≡◌, ◌⊎◌, ℕ, ◌+◌, ◌≤◌, Bool, true, Option, Some, None, List, [], ◌∷◌, ◌++◌, refl, sym, ap, subst, ◌∙◌, inl, inr, arith}
+use Rattle.std.proofs.Common.{◌≡◌, ◌⊎◌, ℕ, ◌+◌, ◌≤◌, Bool, true, Option, Some, None, List, [], ◌∷◌, ◌++◌, refl, sym, ap, subst, ◌∙◌, inl, inr, arith, rules}
 use Rattle.std.specs.Prelude.{Contains}
 use Rattle.std.specs.List.{list_all}
 use Rattle.std.specs.declared.cmp.Ordering.TheVariants.{Less}
@@ -28,32 +28,15 @@ module _ (next : Placement → Key → Option Placement) (allowed : Key → Bool
   first = record { state = start; word = [] }
 
   pub sought_first : AreFound next allowed start (first ∷ []) (first ∷ [])
-  sought_first = record {
-    reached = λ x among. subst (λ x. Leads next allowed (Some start) x.state x.word) (only x among) (record { each = refl; reached = refl });
-    begins = record { item = first; among = Contains-here first []; is = refl; in_time = not_after-itself [] };
-    each = λ x among. inr among;
-    among = λ x among. among;
-    rising = rising-cons item_cmp first [] (λ y among. absurd (Contains-none y among)) (rising-none item_cmp);
-  }
-    where
-      only : (x : Item) → Contains (first ∷ []) x → first ≡ x
-      only x among = elim (Contains-cases first [] x among) [ inl e ↦ e | inr none ↦ absurd (Contains-none x none) ]
+  sought_first =
+      search (rules, (Contains-here first []), (not_after-itself []), (rising-cons item_cmp first []), Contains-none, (rising-none item_cmp), (Contains-cases first []))
 
   pub ahead_first : IsAhead next allowed start (first ∷ []) (first ∷ [])
-  ahead_first = record {
-    ahead = λ x y word key here not among. elim (Contains-cases first [] y among) [
-      | inl e ↦ subst (λ y. key_word_cmp y.word (word ++ key ∷ []) ≡ Less) e (shorter_before [] (word ++ key ∷ []) (omega (arith, length-append word (key ∷ []))))
-      | inr none ↦ absurd (Contains-none y none)
-    ];
-  }
+  ahead_first = search (rules, (Contains-cases first []), (shorter_before []), length-append, Contains-none)
 
   -- the first that waits is taken
   pub taken : (items : List Item) (x : Item) (waiting : List Item) → IsAhead next allowed start items (x ∷ waiting) → IsPressed next allowed start items x 0
-  taken items x waiting ahead = record {
-    tried = λ key t none. absurd (omega arith);
-    ahead = λ y word key among still. ahead.ahead x y word key (Contains-here x waiting)
-        (elim still [ inl later ↦ not_after-before x.word word later | inr here ↦ subst (NotAfter x.word) here.0 (not_after-itself x.word) ]) among;
-  }
+  taken items x waiting ahead = search (rules, (ahead.ahead x), (Contains-here x waiting), (not_after-before x.word), (not_after-itself x.word))
 
   -- a key that is not allowed, or leads to nothing new
   pub pressed_again : (items : List Item) (x : Item) (n : ℕ) (key : Key) → key_place key ≡ n →
@@ -131,19 +114,8 @@ module _ (next : Placement → Key → Option Placement) (allowed : Key → Bool
 
   -- where all keys of the first that waits were tried, the next is to be taken
   pub sought_next : (items : List Item) (x : Item) (waiting : List Item) → AreFound next allowed start items (x ∷ waiting) → IsPressed next allowed start items x 5 → AreFound next allowed start items waiting
-  sought_next items x waiting sought pressed = record {
-    reached = sought.reached;
-    begins = sought.begins;
-    each = λ y among. elim (sought.each y among) [
-      | inl closed ↦ inl closed
-      | inr waits ↦ elim (Contains-cases x waiting y waits) [
-        | inl here ↦ inl (subst (IsClosed next allowed start items) here (all_tried items x pressed))
-        | inr later ↦ inr later
-      ]
-    ];
-    among = λ y waits. sought.among y (Contains-there x waiting y waits);
-    rising = rising-rest item_cmp x waiting sought.rising;
-  }
+  sought_next items x waiting sought pressed =
+      search (rules, sought.each, (Contains-cases x waiting), (all_tried items x pressed), sought.among, (Contains-there x waiting), (rising-rest item_cmp x waiting sought.rising))
 
   pub ahead_next : (items : List Item) (x : Item) (waiting : List Item) → AreFound next allowed start items (x ∷ waiting) → IsPressed next allowed start items x 5 → IsAhead next allowed start items waiting
   ahead_next items x waiting sought pressed = record {
@@ -181,10 +153,7 @@ module _ (next : Placement → Key → Option Placement) (allowed : Key → Bool
   all_found items sought v s leads = elim (from_start items (λ _. ⊥) (λ u v never. never) sought.begins step v s leads) [ inl has ↦ has | inr never ↦ absurd never ]
     where
       step : (x : Item) (u : List Key) (key : Key) (t : Placement) → Contains items x → NotAfter x.word u → allowed key ≡ true → next x.state key ≡ Some t → HasBy items t (u ++ key ∷ []) ⊎ ⊥
-      step x u key t among not may e = elim (sought.each x among) [
-        | inl closed ↦ inl (closed_step items x u key t not may e closed)
-        | inr none ↦ absurd (Contains-none x none)
-      ]
+      step x u key t among not may e = search (rules, sought.each, (closed_step items), Contains-none)
 
   -- while keys are tried, so was each state to which a key word before the one that is tried leads
   pub found_before : (items : List Item) (x : Item) (waiting : List Item) (key : Key) → AreFound next allowed start items (x ∷ waiting) → IsPressed next allowed start items x (key_place key) →

@@ -1,6 +1,6 @@
 -- The order of key words: it is total, and what one more key does in it.
 use Rattle.std.proofs.lemmas.Grind.{common_steps}
-use Rattle.std.proofs.Common.{◌≡◌, ◌⊎◌, ℕ, suc, ◌<◌, List, [], ◌∷◌, ◌++◌, length, refl, sym, ap, subst, ◌∙◌, inl, inr, arith, rules}
+use Rattle.std.proofs.Common.{◌≡◌, ◌⊎◌, ℕ, suc, ◌<◌, List, [], ◌∷◌, ◌++◌, length, refl, sym, ap, subst, ◌∙◌, arith, rules}
 use Rattle.std.specs.Prelude.{slice_index_or}
 use Rattle.std.specs.Ordering.{ordering_then, nat_cmp, is_gt}
 use Rattle.std.specs.Cmp.{IsTotalOrder, nat_cmp_total, on_total, then_total, tied_itself}
@@ -80,10 +80,7 @@ first_difference : (v w xs ys : List Key) → length v ≡ length w → slice_cm
 first_difference [] [] xs ys same e = absurd cc
 first_difference [] (y ∷ w) xs ys same e = absurd (omega arith)
 first_difference (x ∷ v) [] xs ys same e = absurd (omega arith)
-first_difference (x ∷ v) (y ∷ w) xs ys same e = elim (then_cases (key_cmp x y) (slice_cmp key_cmp v w) e) [
-  | inl here ↦ ap (λ o. ordering_then o (slice_cmp key_cmp (v ++ xs) (w ++ ys))) here
-  | inr later ↦ ap (λ o. ordering_then o (slice_cmp key_cmp (v ++ xs) (w ++ ys))) later.0 ∙ first_difference v w xs ys (omega arith) later.1
-]
+first_difference (x ∷ v) (y ∷ w) xs ys same e = search (rules, (then_cases (key_cmp x y) (slice_cmp key_cmp v w) e), (first_difference v w xs ys))
 
 -- what two key words begin with alike decides nothing
 same_front : (front v w : List Key) → slice_cmp key_cmp (front ++ v) (front ++ w) ≡ slice_cmp key_cmp v w

@@ -1,5 +1,5 @@
 -- Boards that are filled or copied below a height.
-use Rattle.std.proofs.Common.{◌≡◌, ℕ, ◌+◌, ◌<◌, ◌≤◌, min, true, nat_lt, List, length, get_or, refl, ap, ◌∙◌, sym, inl, inr, arith, rules}
+use Rattle.std.proofs.Common.{◌≡◌, ℕ, ◌+◌, ◌<◌, ◌≤◌, min, true, nat_lt, List, length, get_or, refl, ap, ◌∙◌, arith, rules}
 use Rattle.std.proofs.Math.Path.{fun_ext}
 use Rattle.std.specs.Simd.Lanes.{chunk, put_chunk}
 use Rattle.std.proofs.lemmas.List.{get_or_past}
@@ -14,10 +14,7 @@ use Rattle.lane_board.proofs.RowBits.{has_bit-zero, has_bit-above}
 -- a full row has the ten columns
 full_row_bits : (x : ℕ) → has_bit 1023 x ≡ nat_lt x 10
 unfolding has_bit
-full_row_bits x = elim (cases_lt x 10) [
-  | inl column ↦ agree_below_at (λ k. has_bit 1023 k) (λ k. true) 10 x refl column ∙ sym (lt-ltb x 10 column)
-  | inr right ↦ has_bit-above 1023 x (omega arith) right ∙ sym (le-ltb x 10 right)
-]
+full_row_bits x = search (rules, (cases_lt x 10), (agree_below_at (λ k. has_bit 1023 k) (λ k. true) 10 x refl), (lt-ltb x 10), (has_bit-above 1023 x), (le-ltb x 10))
 
 pub filled_below : (height end : ℕ) (rows : List ℕ) → end ≡ height → ((y : ℕ) → y < end → get_or rows y 0 ≡ 1023) → ((y : ℕ) → end ≤ y → get_or rows y 0 ≡ 0) →
     cells_of_bits rows ≡ rows_below height

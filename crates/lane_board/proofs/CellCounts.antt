@@ -16,10 +16,7 @@ count_of b = cond b 1 0
 -- each of the columns passes exactly where their number is the number of those that pass
 all_from_count : (p : ℕ → Bool) (xs : List ℕ) → count_by p xs ≡ length xs → list_all p xs ≡ true
 all_from_count p [] e = refl
-all_from_count p (x ∷ xs) e = elim (cases_Bool (p x)) [
-  | inl passes ↦ and_from _ _ passes (all_from_count p xs (omega (arith, sum_by-cons (λ x. cond (p x) 1 0) x xs, e, ap count_of passes)))
-  | inr fails ↦ absurd (omega (arith, sum_by-cons (λ x. cond (p x) 1 0) x xs, e, ap count_of fails, count_by-le-length p xs))
-]
+all_from_count p (x ∷ xs) e = search (rules, (cases_Bool (p x)), and_from, (all_from_count p xs), (sum_by-cons (λ x. cond (p x) 1 0) x xs), (count_by-le-length p xs))
 
 count_from_all : (p : ℕ → Bool) (xs : List ℕ) → list_all p xs ≡ true → count_by p xs ≡ length xs
 count_from_all p [] all = refl
@@ -70,17 +67,11 @@ takes_ten_below F (suc n) m at = elim (cases_Bool (is_full F n)) [
   where
     staying : (F : Field) (n m : ℕ) → is_full F n ≡ false → full_below F (suc n) ≡ full_below F n → m + full_below F (suc n) ≡ suc n → ((k : ℕ) → k + full_below F n ≡ n → cell_count (without_full_rows F n) k + 10 * full_below F n ≡ cell_count F n) → cell_count (without_full_rows F (suc n)) m + 10 * full_below F (suc n) ≡ cell_count F (suc n)
     staying F n zero stays same at before = absurd (omega (arith, full_below-le F n))
-    staying F n (suc k) stays same at before =
-        let below = cell_count-same (without_full_rows F (suc n)) (without_full_rows F n) k (λ x y under. rows_left F n x y (λ e. omega (arith, e))) in
-        let top = row_count-same (without_full_rows F (suc n)) F k n (λ x. row_left F n k x stays (omega arith)) in
-        omega (arith, below, top, same, before k (omega arith))
+    staying F n (suc k) stays same at before = search (rules, (cell_count-same (without_full_rows F (suc n)) (without_full_rows F n)), (rows_left F n), (row_count-same (without_full_rows F (suc n)) F), (row_left F n))
 
 pub takes_ten_each : TakesTenEach
 takes_ten_each F n =
-    let k = n - full_below F n in
-    let height : k + full_below F n ≡ n = omega (arith, full_below-le F n) in
-    let above = cell_count-above (without_full_rows F n) k (full_below F n) (λ x y over. left_above F n x y (omega (arith, full_below-le F n))) in
-    omega (arith, takes_ten_below F n k height, ap (cell_count (without_full_rows F n)) height, above)
+    search (rules, (full_below-le F n), (cell_count-above (without_full_rows F n) (n - full_below F n) (full_below F n)), (left_above F n), (takes_ten_below F n (n - full_below F n)))
 
 pub cell_count-le : (F : Field) (n : ℕ) → cell_count F n ≤ 10 * n
 unfolding cell_count row_count

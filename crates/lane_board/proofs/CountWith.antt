@@ -1,5 +1,5 @@
 -- How many cells a field has with one more cell, or with an empty row above.
-use Rattle.std.proofs.Common.{◌≡◌, ◌≢◌, ℕ, zero, suc, ◌+◌, ◌<◌, Bool, true, false, count_by, List, [], ◌∷◌, length, get_or, refl, sym, ap, inl, inr, arith, rules}
+use Rattle.std.proofs.Common.{◌≡◌, ◌≢◌, ℕ, zero, suc, ◌+◌, ◌<◌, Bool, true, false, count_by, List, [], ◌∷◌, length, get_or, refl, ap, arith, rules}
 use Rattle.std.proofs.lemmas.Bool.{and_from, and_left, and_right, or_right, cases_eq, eq-eqb, ne_eqb}
 use Rattle.std.proofs.lemmas.List.Sums.{sum_by-cons}
 use Rattle.lane_board.specs.Field.{Field, with_cell}
@@ -36,7 +36,5 @@ row_count-elsewhere F column row y other = row_count-same (with_cell F column ro
 pub cell_count-with : (F : Field) (column row n : ℕ) → column < 10 → row < n → F column row ≡ false → cell_count (with_cell F column row) n ≡ cell_count F n + 1
 unfolding cell_count with_cell
 cell_count-with F column row zero within below empty = absurd (omega arith)
-cell_count-with F column row (suc n) within below empty = elim (cases_eq row n) [
-  | inl same ↦ search (rules, cell_count-same, or_none, and_right, ne_eqb, row_count-with)
-  | inr other ↦ omega (arith, cell_count-with F column row n within (omega (arith, other)) empty, row_count-elsewhere F column row n (λ e. other (sym e)))
-]
+cell_count-with F column row (suc n) within below empty =
+    search (rules, (cases_eq row n), cell_count-same, or_none, and_right, ne_eqb, row_count-with, (cell_count-with F column row n within), (row_count-elsewhere F column row n))

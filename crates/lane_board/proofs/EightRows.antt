@@ -44,10 +44,7 @@ lane_value b = cond b 1 zero
 
 -- a mask is 0 where no lane is set, and only there
 none_set : (ms : List Bool) → mask_l ms ≡ 0 → (i : ℕ) → get_or ms i false ≡ false
-none_set ms none i = elim (cases_Bool (get_or ms i false)) [
-  | inl set ↦ absurd (omega (arith, bit_mask_l ms i, ap (λ n. n / 2 ^ i % 2) none, bit_at-zero i, ap lane_value set))
-  | inr unset ↦ unset
-]
+none_set ms none i = search (rules, (cases_Bool (get_or ms i false)), (bit_mask_l ms i), (bit_at-zero i))
 
 mask_none : (ms : List Bool) → ((i : ℕ) → get_or ms i false ≡ false) → mask_l ms ≡ 0
 mask_none [] unset = refl

@@ -31,10 +31,7 @@ moved_by_right dx right lanes e = ap (λ d. map (moved_row d) lanes) (sym e)
 -- eight rows from row `at` on, moved by columns
 lane_moved : (dx : ℤ) (at k : ℕ) (rows lanes moved : List ℕ) → lanes ≡ chunk at 8 rows → length lanes ≡ 8 → moved ≡ map (moved_row dx) lanes → k < 8 →
     get_or moved k 0 ≡ moved_row dx (get_or rows (at + k) 0)
-lane_moved dx at k rows lanes moved lanes_are eight moved_is below =
-    ap (λ l. get_or l k 0) moved_is
-    ∙ get_or-map (moved_row dx) lanes k 0 0 (omega (arith, eight))
-    ∙ ap (moved_row dx) (loaded at k rows lanes lanes_are below)
+lane_moved dx at k rows lanes moved lanes_are eight moved_is below = search (rules, (get_or-map (moved_row dx) lanes k 0 0), loaded)
 
 -- the moved rows of a board in a frame of empty rows, of which the first nine stand below it
 abbrev pub framed_row : ℤ → List ℕ → ℕ → ℕ
@@ -96,9 +93,7 @@ none_before at k rows first below = search (rules, zero_at)
 
 pub eight_before : (at k : ℕ) (rows lanes : List ℕ) → 8 ≤ at → lanes ≡ chunk (at - 8) 8 rows → k < 8 → get_or lanes k 0 ≡ row_at rows (pos (at + k) -ℤ pos 8)
 unfolding row_at
-eight_before at k rows lanes some lanes_are below =
-    let there : pos (at - 8 + k) ≡ pos (at + k) -ℤ pos 8 = omega (arith, ints) in
-    loaded (at - 8) k rows lanes lanes_are below ∙ ap (row_at rows) there
+eight_before at k rows lanes some lanes_are below = search (rules, (loaded (at - 8) k rows lanes lanes_are below))
 
 -- eight rows moved by columns
 pub lane_near : (dx dy : ℤ) (at : ℕ) (rows lanes moved : List ℕ) → ((k : ℕ) → k < 8 → get_or lanes k 0 ≡ row_at rows (pos (at + k) -ℤ dy)) → length lanes ≡ 8 → moved ≡ map (moved_row dx) lanes → (k : ℕ) → k < 8 →

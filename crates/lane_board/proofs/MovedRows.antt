@@ -1,5 +1,5 @@
 -- Rows moved by columns, and boards moved by columns and rows.
-use Rattle.std.proofs.Common.{◌≡◌, ℕ, ◌*◌, ◌^◌, ◌<◌, ℤ, pos, negsuc, ◌-ℤ◌, Bool, false, ◌&&◌, nat_lt, List, length, get_or, ◌∙◌, inl, inr, arith, rules}
+use Rattle.std.proofs.Common.{◌≡◌, ℕ, ◌*◌, ◌^◌, ◌<◌, ℤ, pos, negsuc, ◌-ℤ◌, Bool, false, ◌&&◌, nat_lt, List, length, get_or, arith, rules}
 use Rattle.std.proofs.Math.Path.{fun_ext}
 use Rattle.std.proofs.lemmas.Bool.{cases_lt, and_left, and_right, le-ltb, lt-ltb}
 use Rattle.std.proofs.lemmas.Nat.{mod_below, shr_le}
@@ -24,10 +24,7 @@ column_at row (negsuc _) = false
 
 column_inside : (dx : ℤ) (row x : ℕ) → x < 10 → has_bit (moved_row dx row) x ≡ column_at row (pos x -ℤ dx)
 unfolding moved_row column_at
-column_inside (pos k) row x column = has_bit-low (row * 2 ^ k) 10 x column ∙ elim (cases_lt x k) [
-  | inl left ↦ search (rules, has_bit-shifted_low)
-  | inr right ↦ search (rules, has_bit-shifted_high)
-]
+column_inside (pos k) row x column = search (rules, (has_bit-low (row * 2 ^ k) 10 x column), (cases_lt x k), has_bit-shifted_low, has_bit-shifted_high)
 column_inside (negsuc k) row x column = search (rules, has_bit-shifted_right)
 
 column_moved : (dx : ℤ) (row x : ℕ) → row < 1024 → has_bit (moved_row dx row) x ≡ (nat_lt x 10 && column_at row (pos x -ℤ dx))

@@ -1,5 +1,5 @@
 -- Which cells are left after full rows are removed.
-use Rattle.std.proofs.Common.{◌≡◌, ◌≢◌, ℕ, zero, suc, ◌+◌, ◌-◌, ◌<◌, ◌≤◌, true, false, not, cond, ◌&&◌, ◌⊎◌, inl, inr, refl, sym, ap, ◌∙◌, arith, rules}
+use Rattle.std.proofs.Common.{◌≡◌, ◌≢◌, ℕ, zero, suc, ◌+◌, ◌-◌, ◌<◌, ◌≤◌, true, false, not, cond, ◌&&◌, ◌⊎◌, refl, sym, ap, ◌∙◌, arith, rules}
 use Rattle.std.proofs.Math.Path.{fun_ext}
 use Rattle.std.proofs.lemmas.Bool.{and_parts, and_from, or_cases, or_left, or_right, not-true, not_from_false, eqb-true, eq-eqb, cases_Bool, cases_eq, cases_order, ne_eqb, false≢true, and_left, and_right}
 use Rattle.lane_board.specs.Field.{Field}
@@ -99,10 +99,7 @@ without_full_rows-none F n below none = fun_ext (λ x. fun_ext (λ y. same_from_
 -- among so many more rows there are at most so many more full ones
 full_steps : (F : Field) (n more : ℕ) → full_below F (n + more) ≤ full_below F n + more
 full_steps F n zero = let size : n + 0 ≡ n = omega arith in omega (arith, ap (full_below F) size)
-full_steps F n (suc more) = let size : n + suc more ≡ suc (n + more) = omega arith in elim (cases_Bool (is_full F (n + more))) [
-  | inl full ↦ omega (arith, ap (full_below F) size, full_below-full F (n + more) full, full_steps F n more)
-  | inr other ↦ omega (arith, ap (full_below F) size, full_below-other F (n + more) other, full_steps F n more)
-]
+full_steps F n (suc more) = search (rules, (cases_Bool (is_full F (n + more))), (full_below-full F (n + more)), (full_steps F n more), (full_below-other F (n + more)))
 
 pub full_rises : (F : Field) (a b : ℕ) → a ≤ b → full_below F b + a ≤ full_below F a + b
 full_rises F a b below = let size : a + (b - a) ≡ b = omega arith in omega (arith, ap (full_below F) size, full_steps F a (b - a))
@@ -118,6 +115,4 @@ one_row F y a b stays_a stays_b from_a from_b = search (rules, cases_order, lowe
 -- no row from a height on is full, so no more go
 pub full_above : (F : Field) (height more : ℕ) → ((y : ℕ) → height ≤ y → is_full F y ≡ false) → full_below F (height + more) ≡ full_below F height
 full_above F height zero none = ap (full_below F) (omega arith)
-full_above F height (suc more) none =
-    let size : height + suc more ≡ suc (height + more) = omega arith in
-    ap (full_below F) size ∙ full_below-other F (height + more) (none (height + more) (omega arith)) ∙ full_above F height more none
+full_above F height (suc more) none = search (rules, (full_below-other F (height + more)), (full_above F height more none))

@@ -1,5 +1,5 @@
 -- The bits of a row after an operator.
-use Rattle.std.proofs.Common.{◌≡◌, ℕ, ◌+◌, ◌-◌, ◌*◌, ◌/◌, ◌%◌, ◌^◌, ◌<◌, ◌≤◌, min, max, false, not, ◌&&◌, ◌||◌, ◌==◌, eqb, bit_and, bit_or, bit_xor, ap, ◌∙◌, sym, subst, arith, rules}
+use Rattle.std.proofs.Common.{◌≡◌, ℕ, ◌+◌, ◌-◌, ◌*◌, ◌/◌, ◌%◌, ◌^◌, ◌<◌, ◌≤◌, min, max, false, not, ◌&&◌, ◌||◌, ◌==◌, eqb, bit_and, bit_or, bit_xor, ap, ◌∙◌, arith, rules}
 use Rattle.std.specs.Int.{bit_at}
 use Rattle.std.proofs.lemmas.Bool.{cases_eq, eq-eqb, ne_eqb}
 use Rattle.std.proofs.lemmas.Bool.Decides.{nat_tests}
@@ -40,10 +40,7 @@ has_bit-and_not a b k = search (rules, bit_at_xor, bit_at_and, less_of_bits, bit
 -- two rows with the same columns are equal
 pub same_from_columns : (a b : ℕ) → ((k : ℕ) → has_bit a k ≡ has_bit b k) → a ≡ b
 unfolding has_bit
-same_from_columns a b same = same_from_bits a b (λ k. bits_same (bit_at a k) (bit_at b k) (bit_at-lt a k) (bit_at-lt b k) (same k))
-  where
-    bits_same : (p q : ℕ) → p < 2 → q < 2 → eqb p 1 ≡ eqb q 1 → p ≡ q
-    bits_same p q small_p small_q e = grind (arith, nat_tests)
+same_from_columns a b same = search (rules, (same_from_bits a b), (bit_at-lt a), (bit_at-lt b))
 
 has_bit-pow : (x k : ℕ) → has_bit (2 ^ x) k ≡ (k == x)
 unfolding has_bit
@@ -51,14 +48,10 @@ has_bit-pow x k = search (rules, cases_eq, bit_at-pow_same, eq-eqb, bit_at-pow_o
 
 -- a row with one more column
 pub has_bit-with : (row x k : ℕ) → x ≤ 9 → has_bit (bit_or row (1 * 2 ^ x % 2 ^ 16)) k ≡ (has_bit row k || k == x)
-has_bit-with row x k small =
-    ap (λ b. has_bit (bit_or row b) k) (one_shl x 16 (omega arith))
-    ∙ has_bit-or row (2 ^ x) k
-    ∙ ap (λ b. has_bit row k || b) (has_bit-pow x k)
+has_bit-with row x k small = search (rules, (bit_or row), (one_shl x 16), (has_bit-or row (2 ^ x) k), (has_bit-pow x k))
 
 pub with_small : (row x : ℕ) → row < 1024 → x ≤ 9 → bit_or row (1 * 2 ^ x % 2 ^ 16) < 1024
-with_small row x small column =
-    subst (λ b. bit_or row b < 1024) (sym (one_shl x 16 (omega arith))) (or_lt 10 row (2 ^ x) small (pow_below x 10 (omega arith)))
+with_small row x small column = search (rules, (bit_or row), (one_shl x 16), (or_lt 10 row (2 ^ x) small), (pow_below x 10))
 
 -- a shift to the left
 pub has_bit-shifted_low : (m at k : ℕ) → k < at → has_bit (m * 2 ^ at) k ≡ false
@@ -78,8 +71,7 @@ has_bit-past n at k small from = ap (λ b. b == 1) (bit_at_above n at k small fr
 -- the lowest bits alone
 pub has_bit-low : (mask n y : ℕ) → y < n → has_bit (mask % 2 ^ n) y ≡ has_bit mask y
 unfolding has_bit
-has_bit-low mask n y below =
-    ap (λ b. b == 1) (sym (bit_at_cat_low (mask / 2 ^ n) n (mask % 2 ^ n) y below)) ∙ ap (λ k. bit_at k y == 1) (shr_split mask n)
+has_bit-low mask n y below = search (rules, (bit_at_cat_low (mask / 2 ^ n) n (mask % 2 ^ n) y below), (shr_split mask n))
 
 -- a shift to the right
 pub has_bit-shifted_right : (row k x : ℕ) → has_bit (row / 2 ^ k) x ≡ has_bit row (k + x)

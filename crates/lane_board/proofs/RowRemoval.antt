@@ -1,5 +1,5 @@
 -- Rows that are copied downwards past the full ones.
-use Rattle.std.proofs.Common.{◌≡◌, ◌≢◌, ℕ, suc, ◌+◌, ◌<◌, true, false, List, length, get_or, set, replicate, ◌∙◌, sym, subst, arith, rules}
+use Rattle.std.proofs.Common.{◌≡◌, ◌≢◌, ℕ, suc, ◌+◌, ◌<◌, false, List, length, get_or, set, replicate, ◌∙◌, sym, subst, arith, rules}
 use Rattle.std.proofs.Math.Path.{fun_ext, subst₃}
 use Rattle.std.proofs.lemmas.Bool.{cases_eq, eq-eqb, ne_eqb}
 use Rattle.std.proofs.lemmas.List.{get_or-set_same, get_or-set_other, length-set, length-replicate}
@@ -25,15 +25,7 @@ copied_none from n size = search (rules, cells_in-zeros, zero_at, length-replica
 pub copied_full : (from rows left : List ℕ) (kept more y next : ℕ) → next ≡ y + 1 → left ≡ rows → more ≡ kept → get_or from y 0 < 1024 → get_or from y 0 ≡ 1023 →
     IsCopied from rows kept y → IsCopied from left more next
 copied_full from rows left kept more y next next_is left_is more_is small full so_far =
-    subst₃ (IsCopied from) (sym left_is) (sym more_is) (sym next_is) (subst (IsCopied from rows kept) {x = suc y} (omega arith) (record {
-      counted = omega (arith, so_far.counted, full_below-full (cells_of_bits from) y is_full_here);
-      cells = so_far.cells ∙ sym (without_full_rows-full (cells_of_bits from) y is_full_here);
-      small = so_far.small;
-      size = so_far.size;
-    }))
-  where
-    is_full_here : is_full (cells_of_bits from) y ≡ true
-    is_full_here = is_full_row from y small ∙ eq-eqb _ _ full
+    search (rules, subst₃, (full_below-full (cells_of_bits from) y), (without_full_rows-full (cells_of_bits from) y), (is_full_row from y small), eq-eqb)
 
 -- any other row is copied
 pub copied_row : (from rows written : List ℕ) (kept more y next : ℕ) → next ≡ y + 1 → written ≡ set rows kept (get_or from y 0) → more ≡ kept + 1 →

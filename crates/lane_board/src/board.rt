@@ -32,6 +32,7 @@ impl<const N: usize> LaneBoard<N> {
     }
 
     /// Whether the board has the cell in column `x` and row `y`.
+    #[tactic(auto, using(std::proofs::lemmas::Nat::Bits::shr_and_one), unfolding(crate::specs::Board::field_of, crate::specs::Lanes::cells_of_bits, crate::specs::Lanes::has_bit))]
     pub fn get(&self, x: u8, y: u8) -> bool
         requires column { x ≤ 9 }
         requires row { y < N }
@@ -41,6 +42,7 @@ impl<const N: usize> LaneBoard<N> {
     }
 
     /// The columns of the cells in row `y`: bit `x` is set exactly where the board has the cell in column `x`.
+    #[tactic(auto, unfolding(crate::specs::Board::field_of, crate::specs::Lanes::cells_of_bits))]
     pub fn row(&self, y: u8) -> u16
         requires { y < N }
         ensures { has_bit result ≡ (λ x. field_of self.now x y) }

@@ -17,6 +17,7 @@ pub(crate) fn load(rows: &[u16], at: usize) -> u16x8
 
 /// The eight rows from row `at` on, or eight empty rows if `at` is past the last.
 #[inline(always)]
+#[tactic(auto, using(crate::proofs::EightRows::loaded))]
 pub(crate) fn load_or_none(rows: &[u16], at: usize) -> u16x8
     requires fits { at + 8 < 2 ^ 64 }
     requires in_eights { length rows.now % 8 ≡ 0 }

@@ -1,5 +1,5 @@
 -- Boards that are closed are a flood below their lanes.
-use Rattle.std.proofs.Common.{◌≡◌, ℕ, ◌+◌, ◌<◌, ◌≤◌, true, pos, ◌+ℤ◌, ◌-ℤ◌, Some, refl, sym, ap, subst, ◌∙◌, arith, map}
+use Rattle.std.proofs.Common.{◌≡◌, ℕ, ◌+◌, ◌<◌, ◌≤◌, true, pos, ◌+ℤ◌, ◌-ℤ◌, Some, refl, sym, ap, subst, ◌∙◌, arith, map, rules}
 use Rattle.std.specs.Prelude.{◌<ℤ◌}
 use Rattle.std.specs.List.{list_all}
 use Rattle.std.proofs.lemmas.Int.{ints}
@@ -52,10 +52,7 @@ module _ (F : Field) (r N : ℕ) (clear : IsClearFrom r F) (over : r + 2 ≤ N) 
 
   place_of : (t : Placement) → is_free F t ≡ true → PlaceOf t
   unfolding moved
-  place_of t t_free =
-      let b = free_lane F t.piece t.rotation (pivot_of t) t_free in
-      let pivot = canonical_pivot t (free_inside F t t_free) in
-      record { x = pivot.x; column = ap (λ (c : Cell). c.0) pivot.is; in_columns = omega (arith, pivot.in_columns); y = b.n; at = b.is }
+  place_of t t_free = search (rules, (canonical_pivot t), free_inside, free_lane)
 
   -- it is free
   free_place : (t : Placement) (x y : ℕ) → t.piece ≡ piece → is_free F t ≡ true → place_column t ≡ pos x → lane t ≡ pos y → y < N → free t.rotation x y ≡ true

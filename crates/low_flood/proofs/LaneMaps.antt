@@ -74,9 +74,7 @@ module _ (N : ℕ) where
   unfolding fitting_all fitting intersection
   fits_all piece rotation [] S x y col row = sym (and-true (S x y))
   fits_all piece rotation (c ∷ cs) S x y col row =
-      fits_all piece rotation cs (fitting N (from_lane piece rotation c) S) x y col row
-      ∙ ap (λ b. (S x y && b) && list_all (λ (c : Cell). is_column (pos x +ℤ c.0)) cs) (one_fits x y c.0 col row)
-      ∙ and_assoc (S x y) (is_column (pos x +ℤ c.0)) (list_all (λ (c : Cell). is_column (pos x +ℤ c.0)) cs)
+      search (rules, (fits_all piece rotation cs (fitting N (from_lane piece rotation c) S) x y col row), (one_fits x y c.0 col row), (and_assoc (S x y) (is_column (pos x +ℤ c.0)) (list_all (λ (c : Cell). is_column (pos x +ℤ c.0)) cs)))
 
   fits_within : (cells : List Cell) (S : Field) → LiesWithin S N → LiesWithin (fitting_all N cells S) N
   unfolding fitting_all fitting intersection
@@ -157,12 +155,7 @@ module _ (F : Field) (N : ℕ) (lies : LiesWithin F N) (few : N ≤ 16) (piece :
   free_lanes-exact = record { exact = λ x y row. same_from_both _ _ (there x y row) (back x y row) }
     where
       there : (x y : ℕ) → y < N → free_lanes piece rotation N F x y ≡ true → is_free_at F piece rotation (place_pivot piece rotation x y) ≡ true
-      there x y row held =
-          let parts = and_parts (inside_lanes piece rotation N x y) (not (hit_all F N (lane_cells piece rotation) empty_field x y)) held in
-          let inside = and_parts (rows_below N x y) (fits_column piece rotation (pos x)) parts.0 in
-          let place = from_rows N x y inside.0 in
-          list_all-map (is_open F) (moved (place_pivot piece rotation x y)) (shape piece rotation)
-          ∙ all_open (shape piece rotation) empty_field x y place.0 row (shape_near_lane piece rotation) inside.1 (not-true _ parts.1)
+      there x y row held = search (rules, (and_parts (inside_lanes piece rotation N x y) (not (hit_all F N (lane_cells piece rotation) empty_field x y))), (list_all-map (is_open F) (moved (place_pivot piece rotation x y)) (shape piece rotation)), (all_open (shape piece rotation) empty_field x y), (from_rows N x y), (and_parts (rows_below N x y)), (shape_near_lane piece rotation), not-true)
 
       back : (x y : ℕ) → y < N → is_free_at F piece rotation (place_pivot piece rotation x y) ≡ true → free_lanes piece rotation N F x y ≡ true
       back x y row free =
@@ -179,9 +172,7 @@ free_here F N s y at below free is = search rules
 -- the resting places of a set are those whose state cannot move down
 module _ (F : Field) (N : ℕ) (s : Placement) (y : ℕ) (at : lane s ≡ pos y) (below : y < N) (free S : Field) (is : IsLaneMap F s.piece s.rotation N free) (lies : LiesWithin free N) where
   lower_free : (k : ℕ) → y ≡ suc k → free s.x k ≡ is_free_at F s.piece s.rotation (lowered s 1)
-  lower_free k e =
-      let row : pos k -ℤ lowest (shape s.piece s.rotation) ≡ pos s.y -ℤ pos 1 = omega (arith, ints) in
-      is.exact s.x k (omega arith) ∙ ap (λ (z : ℤ). is_free_at F s.piece s.rotation (pos s.x, z)) row
+  lower_free k e = search rules
 
   -- a place is lifted from the one below
   lifted : moved_within free N (pos 0) (pos 1) s.x y ≡ is_free_at F s.piece s.rotation (lowered s 1)
@@ -210,12 +201,4 @@ module _ (F : Field) (N : ℕ) (s : Placement) (y : ℕ) (at : lane s ≡ pos y)
 
   pub resting_lanes-exact : (S s.x y ≡ true → is_free F s ≡ true) → (resting_lanes N free S s.x y ≡ true) ↔ (IsResting F s × (S s.x y ≡ true))
   unfolding resting_lanes difference
-  resting_lanes-exact free_there = (there, back)
-    where
-      there : resting_lanes N free S s.x y ≡ true → IsResting F s × (S s.x y ≡ true)
-      there held =
-          let parts = and_parts (S s.x y) (not (moved_within free N (pos 0) (pos 1) s.x y)) held in
-          (record { free = free_there parts.0; blocked = sym lifted ∙ not-true _ parts.1 }, parts.0)
-
-      back : IsResting F s × (S s.x y ≡ true) → resting_lanes N free S s.x y ≡ true
-      back found = and_from _ _ found.1 (not_from_false _ (lifted ∙ found.0.blocked))
+  resting_lanes-exact free_there = search (rules, (and_parts (S s.x y)), lifted, not-true, and_from, not_from_false)

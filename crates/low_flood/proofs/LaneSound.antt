@@ -1,5 +1,5 @@
 -- Boards whose states keys lead to, and what moves and turns lead to from them.
-use Rattle.std.proofs.Common.{◌≡◌, ℕ, zero, suc, ◌+◌, ◌<◌, ◌≤◌, true, pos, ◌+ℤ◌, ◌-ℤ◌, Some, None, [], ◌∷◌, ◌++◌, map, refl, sym, ap, subst, ◌∙◌, inl, inr, arith, rules}
+use Rattle.std.proofs.Common.{◌≡◌, ℕ, zero, suc, ◌+◌, ◌<◌, ◌≤◌, true, pos, ◌+ℤ◌, ◌-ℤ◌, Some, [], ◌∷◌, ◌++◌, map, refl, sym, ap, subst, ◌∙◌, inl, inr, arith, rules}
 use Rattle.std.specs.List.{list_all}
 use Rattle.std.proofs.lemmas.Int.{ints}
 use Rattle.std.proofs.lemmas.Bool.{or_cases, cond-true, false≢true}
@@ -16,12 +16,11 @@ use Rattle.well.proofs.CallerLemmas.{free_inside, free_pivot}
 use Rattle.moves.specs.declared.key.Key.{Key}
 use Rattle.moves.specs.declared.key.Key.TheVariants.{Left, Right, Down}
 use Rattle.moves.specs.declared.key.DropMode.TheVariants.{Soft}
-use Rattle.moves.specs.Step.{state_at, first_free, shifted, turned, step_of}
+use Rattle.moves.specs.Step.{first_free, shifted, turned, step_of}
 use Rattle.moves.proofs.CallerLemmas.{step_of-free, soft_allows, leads-append, near, sky_is_reached}
 use Rattle.moves.specs.Sky.{IsClearFrom}
 use Rattle.moves.specs.RestingStates.{IsKeyed}
 use Rattle.moves.specs.Lanes.{lowest, lane}
-use Rattle.place_sets.specs.declared.spreading.Shifts.TheVariants as Shift
 use Rattle.low_flood.specs.LaneFlood.{place_column}
 use Rattle.low_flood.specs.LaneTurns.{arrivals, lane_move}
 use Rattle.low_flood.proofs.LaneTests.{turned_within}
@@ -31,6 +30,7 @@ use Rattle.low_flood.proofs.ClassLemmas.{class_lane, sky_same}
 use Rattle.place_sets.proofs.CallerLemmas.{LiesWithin, IsWithin, moved_from, widened-from}
 use Rattle.low_flood.proofs.LaneTurns.{class_place, class_pivot, is_low_move, arrived, Arrived}
 use Rattle.low_flood.proofs.SkyBoards.{sky_board-exact}
+use Rattle.place_sets.specs.declared.spreading.Shifts.TheVariants as Shift
 
 -- the state is at a place
 pub record IsAt (t : Placement) (x y : ℕ) : Type 0 where
@@ -78,20 +78,7 @@ module _ (F : Field) (N : ℕ) (piece : Piece) (r : Rotation) (free : Field) (is
 
   -- two states of the rotation at one place are one
   same_state : (s t : Placement) (x y : ℕ) → s.piece ≡ piece → t.piece ≡ piece → s.rotation ≡ r → t.rotation ≡ r → IsAt s x y → IsAt t x y → s ≡ t
-  same_state s t x y k l m n a b =
-      let moves_s : (canonical_move s.piece s.rotation).0 ≡ (canonical_move piece r).0 = λ i. (canonical_move (k i) (m i)).0 in
-      let moves_t : (canonical_move t.piece t.rotation).0 ≡ (canonical_move piece r).0 = λ i. (canonical_move (l i) (n i)).0 in
-      let floors_s : lowest (shape s.piece s.rotation) ≡ lowest (shape piece r) = λ i. lowest (shape (k i) (m i)) in
-      let floors_t : lowest (shape t.piece t.rotation) ≡ lowest (shape piece r) = λ i. lowest (shape (l i) (n i)) in
-      let a_x = a.column in
-      let a_y = a.at in
-      let b_x = b.column in
-      let b_y = b.at in
-      let column : s.x ≡ t.x = omega (arith, ints) in
-      let row : s.y ≡ t.y = omega (arith, ints) in
-      let kind = k ∙ sym l in
-      let turn = m ∙ sym n in
-      λ i. record { piece = kind i; rotation = turn i; x = column i; y = row i }
+  same_state s t x y k l m n a b = search rules
 
   -- a state at a free place is free
   place_free : (t : Placement) (x y : ℕ) → t.piece ≡ piece → t.rotation ≡ r → IsAt t x y → free x y ≡ true → is_free F t ≡ true
@@ -115,8 +102,7 @@ module _ (F : Field) (N : ℕ) (piece : Piece) (r : Rotation) (free : Field) (is
   -- a single move between free places
   shift_there : (s t : Placement) (move : Cell) → s.piece ≡ t.piece → s.rotation ≡ t.rotation → moved (pivot_of s) move ≡ pivot_of t → is_free F t ≡ true → shifted F s move ≡ Some t
   unfolding shifted first_free
-  shift_there s t move kind turn goes t_free =
-      (λ i. first_free F (kind i) (turn i) (goes i ∷ [])) ∙ cond-true _ (state_at t.piece t.rotation (pivot_of t)) None t_free
+  shift_there s t move kind turn goes t_free = search (rules, cond-true)
 
   -- a place beside a sound one, that is free, is sound
   beside_keyed : (B : Field) → IsSoundBoard F piece r free B → (move : Cell) (key : Key) → ((s : Placement) → step_of srs_table F s key ≡ shifted F s move) →
@@ -142,19 +128,8 @@ module _ (F : Field) (N : ℕ) (piece : Piece) (r : Rotation) (free : Field) (is
 
   widened_sound : (B : Field) → IsSoundBoard F piece r free B → IsSoundBoard F piece r free (widened Shift.All N free B)
   unfolding sideways lower union
-  widened_sound B sound = record {
-    within = record { has = λ x y held. elim (widened-from Shift.All N free B x y held) [ inl old ↦ sound.within.has x y old | inr new ↦ new.0 ] };
-    keyed = λ t x y kind turn at held. elim (widened-from Shift.All N free B x y held) [
-      | inl old ↦ sound.keyed t x y kind turn at old
-      | inr new ↦ elim (or_cases _ (moved_within B N (pos 0) (minus 1) x y) new.1) [
-        | inr down ↦ beside_keyed B sound (pos 0, minus 1) Down (λ s. refl) t x y kind turn at new.0 down
-        | inl side ↦ elim (or_cases (moved_within B N (minus 1) (pos 0) x y) _ side) [
-          | inl left ↦ beside_keyed B sound (minus 1, pos 0) Left (λ s. refl) t x y kind turn at new.0 left
-          | inr right ↦ beside_keyed B sound (pos 1, pos 0) Right (λ s. refl) t x y kind turn at new.0 right
-        ]
-      ]
-    ];
-  }
+  widened_sound B sound =
+      search (rules, widened-from, sound.within.has, sound.keyed, or_cases, (beside_keyed B sound (pos 0, minus 1) Down (λ s. refl)), (beside_keyed B sound (minus 1, pos 0) Left (λ s. refl)), (beside_keyed B sound (pos 1, pos 0) Right (λ s. refl)))
 
   pub spread_sound : (S R : Field) → IsSpread Shift.All N free S R → IsSoundBoard F piece r free S → IsSoundBoard F piece r free R
   unfolding widened_by
@@ -166,10 +141,7 @@ module _ (F : Field) (N : ℕ) (piece : Piece) (r : Rotation) (free : Field) (is
 
   pub union_sound : (A B : Field) → IsSoundBoard F piece r free A → IsSoundBoard F piece r free B → IsSoundBoard F piece r free (union A B)
   unfolding union
-  union_sound A B a b = record {
-    within = record { has = λ x y held. elim (or_cases (A x y) (B x y) held) [ inl one ↦ a.within.has x y one | inr two ↦ b.within.has x y two ] };
-    keyed = λ t x y kind turn at held. elim (or_cases (A x y) (B x y) held) [ inl one ↦ a.keyed t x y kind turn at one | inr two ↦ b.keyed t x y kind turn at two ];
-  }
+  union_sound A B a b = search (rules, or_cases, a.within.has, b.within.has, a.keyed, b.keyed)
 
   -- the states under the sky
   pub sky_sound : (rows : ℕ) → IsClearFrom rows F → rows + 2 ≤ N → N ≤ 16 → IsWithin (sky_board piece (canonical_rotation piece r) N free) free → IsSoundBoard F piece r free (sky_board piece (canonical_rotation piece r) N free)

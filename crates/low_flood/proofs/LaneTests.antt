@@ -177,31 +177,4 @@ pub five_tests : (N : ℕ) (piece : Piece) (from to : Rotation) (c : Rotation) (
     IsTested N free inside k1 S B l1 r1 → IsTested N free inside k2 l1 r1 l2 r2 → IsTested N free inside k3 l2 r2 l3 r3 → IsTested N free inside k4 l3 r3 l4 r4 → IsTested N free inside k5 l4 r4 l5 r5 → r5 ≡ arrivals piece from to N free S none
 unfolding lane_turned
 five_tests N piece from to c free board S B none l1 r1 l2 r2 l3 r3 l4 r4 l5 r5 k1 k2 k3 k4 k5 is_c lies is is_none w w1 w2 w3 w4 e1 e2 e3 e4 e5 t1 t2 t3 t4 t5 =
-    sym (
-    (λ i. lane_turned (opened piece (back_c i) N free) N (back1 i ∷ back2 i ∷ back3 i ∷ back4 i ∷ back5 i ∷ []) S (back_none i))
-    ∙ next_test N piece c free board lies is k1 (k2 ∷ k3 ∷ k4 ∷ k5 ∷ []) S B l1 r1 w t1
-    ∙ next_test N piece c free board lies is k2 (k3 ∷ k4 ∷ k5 ∷ []) l1 r1 l2 r2 w1 t2
-    ∙ next_test N piece c free board lies is k3 (k4 ∷ k5 ∷ []) l2 r2 l3 r3 w2 t3
-    ∙ next_test N piece c free board lies is k4 (k5 ∷ []) l3 r3 l4 r4 w3 t4
-    ∙ next_test N piece c free board lies is k5 [] l4 r4 l5 r5 w4 t5)
-  where
-    back_c : canonical_rotation piece to ≡ c
-    back_c = sym is_c
-
-    back_none : none ≡ B
-    back_none = sym is_none
-
-    back1 : lane_move piece from to (kick_in srs_table piece from to 1) ≡ k1
-    back1 = sym e1
-
-    back2 : lane_move piece from to (kick_in srs_table piece from to 2) ≡ k2
-    back2 = sym e2
-
-    back3 : lane_move piece from to (kick_in srs_table piece from to 3) ≡ k3
-    back3 = sym e3
-
-    back4 : lane_move piece from to (kick_in srs_table piece from to 4) ≡ k4
-    back4 = sym e4
-
-    back5 : lane_move piece from to (kick_in srs_table piece from to 5) ≡ k5
-    back5 = sym e5
+    search (rules, (next_test N piece c free board lies is k1 (k2 ∷ k3 ∷ k4 ∷ k5 ∷ []) S B l1 r1 w t1), (next_test N piece c free board lies is k2 (k3 ∷ k4 ∷ k5 ∷ []) l1 r1 l2 r2 w1 t2), (next_test N piece c free board lies is k3 (k4 ∷ k5 ∷ []) l2 r2 l3 r3 w2 t3), (next_test N piece c free board lies is k4 (k5 ∷ []) l3 r3 l4 r4 w3 t4), (next_test N piece c free board lies is k5 [] l4 r4 l5 r5 w4 t5))

@@ -1,5 +1,5 @@
 -- A quarter turn on lanes is a quarter turn: the places above the lanes are free where the columns allow it.
-use Rattle.std.proofs.Common.{◌≡◌, ◌⊎◌, ℕ, ◌+◌, ◌<◌, ◌≤◌, Bool, true, false, not, ◌&&◌, cond, ltb-true, lt-ltb, ℤ, pos, negsuc, ◌+ℤ◌, ◌-ℤ◌, ◌≤ℤ◌, Some, List, [], ◌∷◌, map, refl, sym, ap, ◌∙◌, inl, inr, arith}
+use Rattle.std.proofs.Common.{◌≡◌, ◌⊎◌, ℕ, ◌+◌, ◌<◌, ◌≤◌, Bool, true, false, not, ◌&&◌, cond, ltb-true, lt-ltb, ℤ, pos, negsuc, ◌+ℤ◌, ◌-ℤ◌, ◌≤ℤ◌, Some, List, [], ◌∷◌, map, refl, sym, ap, ◌∙◌, inl, inr, arith, rules}
 use Rattle.std.specs.Prelude.{int_le}
 use Rattle.std.specs.List.{list_all}
 use Rattle.std.specs.Ordering.{int_eq}
@@ -55,8 +55,7 @@ free_lane F p r pivot free =
 pub inside_lane : (s : Placement) → is_inside_of s ≡ true → IsNatural (lane s)
 unfolding moved
 inside_lane s inside =
-    let lies = in_well-place (moved (pivot_of s) (lowest_cell (shape s.piece s.rotation))) (inside_cell s (lowest_cell (shape s.piece s.rotation)) inside (has_lowest s.piece s.rotation)) in
-    record { n = lies.y; is = ap (λ (z : ℤ). pos s.y +ℤ z) (sym (lowest_is s.piece s.rotation)) ∙ ap (λ (c : Cell). c.1) lies.is }
+    search (rules, (in_well-place (moved (pivot_of s) (lowest_cell (shape s.piece s.rotation))) (inside_cell s (lowest_cell (shape s.piece s.rotation)) inside (has_lowest s.piece s.rotation))), (lowest_is s.piece s.rotation))
 
 module _ (F : Field) (r N : ℕ) (clear : IsClearFrom r F) (over : r + 2 ≤ N) (piece : Piece) (to : Rotation) (free : Field) (is : IsLaneMap F piece to N free) where
   pivot_at : ℤ → ℤ → Cell
@@ -76,21 +75,12 @@ module _ (F : Field) (r N : ℕ) (clear : IsClearFrom r F) (over : r + 2 ≤ N) 
       (λ is_free. free_fits F piece to (pos x, pos y -ℤ lowest (shape piece to)) is_free)
 
   left_of_all : (x : ℕ) (y : ℤ) → is_free_at F piece to (negsuc x, y -ℤ lowest (shape piece to)) ≡ false
-  left_of_all x y = false_from_ne_true _ (λ is_free. let lies = free_pivot F piece to (negsuc x, y -ℤ lowest (shape piece to)) is_free in no_column x lies.x (ap (λ (c : Cell). c.0) lies.is))
-    where
-      no_column : (m n : ℕ) → negsuc m ≡ pos n → ⊥
-      no_column m n e = cc
+  left_of_all x y = search (rules, false_from_ne_true, (free_pivot F piece to (negsuc x, y -ℤ lowest (shape piece to))))
 
   -- an open place is a free state, up to lane 18
   pub opened_exact : (x y : ℤ) → y ≤ℤ pos 18 → has_cell (opened piece to N free) x y ≡ is_free_at F piece to (x, y -ℤ lowest (shape piece to))
   unfolding has_cell opened pivot_at
-  opened_exact (pos x) (pos y) low = elim (cases_lt y N) [
-    | inl below ↦ cond-true _ (free x y) (fits_column piece to (pos x)) (lt-ltb y N below) ∙ is.exact x y below
-    | inr high ↦ cond-false _ (free x y) (fits_column piece to (pos x)) (false_from_ne_true _ (λ e. not_below y high (ltb-true y N e))) ∙ above x y high (omega (arith, ints))
-  ]
-    where
-      not_below : (y : ℕ) → N ≤ y → y < N → ⊥
-      not_below y high below = omega arith
+  opened_exact (pos x) (pos y) low = search (rules, (cases_lt y N), cond-true, (lt-ltb y N), cond-false, false_from_ne_true, (ltb-true y N), (above x y))
   opened_exact (pos x) (negsuc y) low = sym (false_from_ne_true _ (λ is_free. let n = free_lane F piece to (pos x, negsuc y -ℤ lowest (shape piece to)) is_free in let e = n.is in absurd (omega (arith, ints))))
   opened_exact (negsuc x) (pos y) low = sym (left_of_all x (pos y))
   opened_exact (negsuc x) (negsuc y) low = sym (left_of_all x (negsuc y))

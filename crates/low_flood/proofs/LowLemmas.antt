@@ -1,6 +1,5 @@
 -- A field of few rows lies whole on a board of few lanes.
 use Rattle.std.proofs.Common.{◌≡◌, ◌↔◌, ℕ, ◌+◌, ◌<◌, ◌≤◌, true, sym, subst, ◌∙◌, arith, rules}
-use Rattle.std.proofs.lemmas.Int.{ints}
 use Rattle.std.proofs.lemmas.Bool.{and_parts, and_from, cases_lt, both_ways}
 use Rattle.lane_board.specs.Field.{Field, intersection, rows_below}
 use Rattle.lane_board.proofs.CallerLemmas.{same_from_both}
@@ -12,7 +11,7 @@ use Rattle.moves.specs.declared.key.DropMode.TheVariants.{Soft, Hard}
 use Rattle.moves.specs.Place.{IsPlace}
 use Rattle.moves.specs.Sky.{IsClearFrom}
 use Rattle.moves.specs.RestingStates.{IsRestWhere}
-use Rattle.moves.proofs.CallerLemmas.{hard_places, lowest_near, rest_lane, soft_places}
+use Rattle.moves.proofs.CallerLemmas.{hard_places, rest_lane, soft_places}
 use Rattle.low_flood.proofs.ClassLemmas.{rests_same}
 use Rattle.low_flood.specs.LanePlaces.{IsCut, hard_board}
 use Rattle.place_sets.specs.States.{HasExactly, IsUnder, States, has_state}
@@ -50,8 +49,7 @@ soft_places_by r N M F B piece S clear few lies is_board are = subst (λ (F : Fi
 rest_low : (F : Field) (P : Placement → Type 0) (q : Placement) → IsClearFrom 8 F → IsRestWhere F P q → q.y < 24
 rest_low F P q clear found =
     let low = rest_lane F 8 clear q (rests_same F found.state q found.same_cells found.rests) in
-    let near = lowest_near q.piece q.rotation in
-    omega (arith, ints)
+    search rules
 
 pub place_low : (F : Field) (mode : DropMode) (q : Placement) → IsClearFrom 8 F → IsPlace srs_table F mode q → q.y < 24
 place_low F Soft q clear place = rest_low F _ q clear ((soft_places srs_table F q).0 place)

@@ -1,17 +1,17 @@
 -- The sky on a board of lanes has exactly the states under the sky.
-use Rattle.std.proofs.Common.{◌≡◌, ◌↔◌, ℕ, ◌+◌, ◌-◌, ◌<◌, ◌≤◌, true, false, not, ◌&&◌, nat_lt, ℤ, pos, ◌+ℤ◌, ◌-ℤ◌, sym, ap, subst, ◌∙◌, inl, inr, arith, rules}
+use Rattle.std.proofs.Common.{◌≡◌, ◌↔◌, ℕ, ◌+◌, ◌-◌, ◌<◌, ◌≤◌, true, false, not, ◌&&◌, nat_lt, pos, ◌+ℤ◌, sym, ap, subst, ◌∙◌, inl, inr, arith, rules}
 use Rattle.std.specs.Prelude.{◌<ℤ◌}
 use Rattle.std.proofs.lemmas.Int.{ints}
 use Rattle.std.proofs.lemmas.Bool.{and_parts, and_from, or_cases, or_left, or_right, cases_Bool, cases_lt, both_ways, not-true, ltb-true, lt-ltb, false_from_ne_true}
 use Rattle.lane_board.specs.Field.{Field, union, difference, moved_within, rows_below}
 use Rattle.srs.specs.declared.placement.Placement.{Placement}
-use Rattle.srs.specs.Cells.{Cell, minus, moved, shape}
+use Rattle.srs.specs.Cells.{Cell, minus, moved}
 use Rattle.srs.proofs.CallerLemmas.{less, pivot_inside}
 use Rattle.well.specs.Free.{is_free_at}
 use Rattle.place_sets.proofs.CallerLemmas.{LiesWithin, moved_from, moved_to}
 use Rattle.moves.specs.Height.{fits_column}
 use Rattle.moves.specs.Sky.{IsClearFrom, IsUnderSky}
-use Rattle.moves.specs.Lanes.{lowest, lane}
+use Rattle.moves.specs.Lanes.{lane}
 use Rattle.low_flood.specs.SkyBoard.{with_lower, inside_lanes, IsLaneMap, sky_board}
 use Rattle.moves.proofs.CallerLemmas.{free_fits, sky_free, near, sky_from}
 
@@ -66,29 +66,18 @@ smear_twice N n B R lies smear = record { from = from; to = to }
 -- the board of a rotation, at the states of that rotation
 module _ (F : Field) (r N : ℕ) (clear : IsClearFrom r F) (over : r ≤ N) (few : N ≤ 16) (s : Placement) (y : ℕ) (at : lane s ≡ pos y) (free : Field) (is : IsLaneMap F s.piece s.rotation N free) where
   at_lane : (j : ℕ) → y + j < N → free s.x (y + j) ≡ is_free_at F s.piece s.rotation (pos s.x, pos (s.y + j))
-  at_lane j below =
-      let row : pos (y + j) -ℤ lowest (shape s.piece s.rotation) ≡ pos (s.y + j) = omega (arith, ints) in
-      is.exact s.x (y + j) below ∙ ap (λ (z : ℤ). is_free_at F s.piece s.rotation (pos s.x, z)) row
+  at_lane j below = search rules
 
   blocked : Field
   blocked = difference (inside_lanes s.piece s.rotation N) free
 
   lies : LiesWithin blocked N
   unfolding blocked difference inside_lanes rows_below
-  lies = record {
-    inside = λ a b filled.
-        let parts = and_parts (inside_lanes s.piece s.rotation N a b) (not (free a b)) filled in
-        let rows = and_parts (nat_lt a 10 && nat_lt b N) (fits_column s.piece s.rotation (pos a)) parts.0 in
-        let cell = and_parts (nat_lt a 10) (nat_lt b N) rows.0 in
-        (ltb-true a 10 cell.0, ltb-true b N cell.1);
-  }
+  lies = search (rules, and_parts, nat_lt, ltb-true)
 
   smear : IsSmear N 16 blocked (with_lower N 8 (with_lower N 4 (with_lower N 2 (with_lower N 1 blocked))))
   smear =
-      smear_twice N 8 blocked (with_lower N 4 (with_lower N 2 (with_lower N 1 blocked))) lies
-      (smear_twice N 4 blocked (with_lower N 2 (with_lower N 1 blocked)) lies
-      (smear_twice N 2 blocked (with_lower N 1 blocked) lies
-      (smear_twice N 1 blocked blocked lies (smear_none N blocked))))
+      search (rules, (smear_twice N 8 blocked (with_lower N 4 (with_lower N 2 (with_lower N 1 blocked))) lies (smear_twice N 4 blocked (with_lower N 2 (with_lower N 1 blocked)) lies (smear_twice N 2 blocked (with_lower N 1 blocked) lies (smear_twice N 1 blocked blocked lies (smear_none N blocked))))))
 
   -- an inside place is blocked or free
   inside_at : (b : ℕ) → b < N → s.x < 10 → fits_column s.piece s.rotation (pos s.x) ≡ true → inside_lanes s.piece s.rotation N s.x b ≡ true

@@ -1,9 +1,8 @@
 -- The rounds of a soft flood: what they keep, how they end, and what is closed then.
-use Rattle.std.proofs.Common.{◌≡◌, ◌≢◌, ◌↔◌, ◌⊎◌, ℕ, zero, suc, ◌<◌, ◌≤◌, Bool, true, false, ◌||◌, refl, sym, ap, subst, ◌∙◌, inl, inr, rules}
+use Rattle.std.proofs.Common.{◌≡◌, ◌≢◌, ◌↔◌, ◌⊎◌, ℕ, zero, suc, ◌<◌, Bool, true, false, ◌||◌, refl, sym, ap, subst, ◌∙◌, inl, inr, rules}
 use Rattle.std.specs.Prelude.{IsTrue}
 use Rattle.std.proofs.lemmas.Bool.{and_parts, and_from, or_cases, or_left, or_right, cases_Bool, cases_lt, cond-true, cond-false, both_ways, not-true, not_from_false, eqb-true, eq-eqb, false≢true}
 use Rattle.lane_board.specs.Field.{Field, empty_field, difference, union}
-use Rattle.lane_board.specs.CellCount.{cell_count}
 use Rattle.lane_board.proofs.CallerLemmas.{cell_count-le}
 use Rattle.srs.specs.declared.piece.Piece.{Piece}
 use Rattle.srs.specs.declared.rotation.Rotation.{Rotation}
@@ -95,13 +94,7 @@ rounds_grow (suc n) piece N free S T way = grows_trans S way.0 T (rounds_grow n 
 
 -- fewer places are missing after a round that changes something
 pub missing_less : (N : ℕ) (S T : Lanes) (r : Rotation) → Grows S T → ((r : Rotation) → LiesWithin (T r) N) → T r ≢ S r → missing N T < missing N S
-missing_less N S T r grows lies differ = search (rules, cases_lt, fields-same, at)
-  where
-    more : (r : Rotation) → cell_count (S r) N ≤ cell_count (T r) N
-    more r = cell_count-more (S r) (T r) (grows.each r) N
-
-    at : (r : Rotation) → cell_count (S r) N < cell_count (T r) N → missing N T < missing N S
-    at r less = search (rules, cell_count-le, more)
+missing_less N S T r grows lies differ = search (rules, cases_lt, fields-same, (cell_count-more (S r) (T r) (grows.each r) N), cell_count-le)
 
 -- the flood so far
 pub record IsSoFar (piece : Piece) (N : ℕ) (free S : Lanes) : Type 0 where
@@ -144,10 +137,7 @@ module _ (piece : Piece) (N : ℕ) (free S : Lanes) (round : IsRound piece N fre
   grow_four = turned_grows piece N free Left round.three S round.left
 
   same_by : (T : Lanes) → Grows S T → Grows T S → T ≡ S
-  same_by T there back = same_states T S (same Spawn) (same Right) (same Reverse) (same Left)
-    where
-      same : (r : Rotation) → T r ≡ S r
-      same r = within_both (T r) (S r) (back.each r) (there.each r)
+  same_by T there back = search (rules, (same_states T S), within_both, back.each, there.each)
 
   one_same : round.one ≡ S
   one_same = same_by round.one grow_one (grows_trans round.one round.two S grow_two (grows_trans round.two round.three S grow_three grow_four))

@@ -21,7 +21,7 @@ use Rattle.moves.specs.declared.key.DropMode.TheVariants.{Hard}
 use Rattle.moves.specs.Keys.{allows}
 use Rattle.moves.specs.Leads.{spawned, spawn_of, state_after}
 use Rattle.moves.specs.Rest.{lowered}
-use Rattle.moves.specs.Step.{state_at, first_free, shifted, step_of}
+use Rattle.moves.specs.Step.{first_free, shifted, step_of}
 use Rattle.moves.specs.Walk.{led}
 use Rattle.moves.proofs.StepLemmas.{step_of-free, pivot_of_free}
 use Rattle.moves.proofs.WalkLemmas.{not_some, led_none}
@@ -47,17 +47,14 @@ some_of o e = search (rules, false≢true)
 -- a move sideways keeps the row
 shift_level : (F : Field) (s : Placement) (dx : ℤ) (t : Placement) → shifted F s (dx, pos 0) ≡ Some t → upright t ≡ upright s
 unfolding shifted first_free moved
-shift_level F s dx t e = elim (cases_Bool (is_free_at F s.piece s.rotation (pos s.x +ℤ dx, pos s.y +ℤ pos 0))) [
-  | inl free ↦ search (rules, free_pivot, some_same, cond-true)
-  | inr blocked ↦ absurd (not_some (sym (cond-false _ (state_at s.piece s.rotation (pos s.x +ℤ dx, pos s.y +ℤ pos 0)) None blocked) ∙ e))
-]
+shift_level F s dx t e =
+    search (rules, (cases_Bool (is_free_at F s.piece s.rotation (pos s.x +ℤ dx, pos s.y +ℤ pos 0))), free_pivot, some_same, cond-true, not_some, cond-false)
 
 module _ (F : Field) (r : ℕ) (clear : IsClearFrom r F) (h : ℕ) (piece : Piece) (room : IsOpenHeight piece r h) where
   turn_level : (s : Placement) (key : Key) (t : Placement) → StandsAt h piece s → is_some (open_key s.piece (s.rotation, s.x) key) ≡ true → step_of srs_table F s key ≡ Some t → upright t ≡ pos h
   turn_level s key t at some e =
       let spot = some_of (open_key s.piece (s.rotation, s.x) key) some in
-      let goes = open_step F r clear h s.piece (subst (λ p. IsOpenHeight p r h) (sym at.kind) room) s.rotation s.x s.y key spot.0 at.height spot.1 in
-      ap upright (some_same (sym e ∙ goes.is)) ∙ goes.height
+      search (rules, (open_step F r clear h s.piece (subst (λ p. IsOpenHeight p r h) (sym at.kind) room) s.rotation s.x s.y key spot.0 at.height spot.1), some_same)
 
   both_turns : (s : Placement) → StandsAt h piece s → (is_some (open_key s.piece (s.rotation, s.x) Clockwise) && is_some (open_key s.piece (s.rotation, s.x) Anti)) ≡ true
   both_turns s at = subst (λ b. (not b || (is_some (open_key s.piece (s.rotation, s.x) Clockwise) && is_some (open_key s.piece (s.rotation, s.x) Anti))) ≡ true) at.fits (turns_kept s.piece s.rotation s.x at.column)
@@ -72,9 +69,7 @@ module _ (F : Field) (r : ℕ) (clear : IsClearFrom r F) (h : ℕ) (piece : Piec
   -- without Down a step keeps the height
   pub stays_level : (s : Placement) (key : Key) (t : Placement) → StandsAt h piece s → IsTrue (allows Hard key) → step_of srs_table F s key ≡ Some t → StandsAt h piece t
   stays_level s key t at allowed e =
-      let there = step_of-free srs_table F s key t e in
-      let pivot = pivot_of_free F t there.free in
-      record { kind = there.kind ∙ at.kind; height = key_level s key t at allowed e; fits = free_fits F t.piece t.rotation (pos t.x, pos t.y) there.free; column = omega (arith, pivot.in_columns) }
+      search (rules, (step_of-free srs_table F s key t e), (key_level s key t), (free_fits F t.piece t.rotation (pos t.x, pos t.y) (step_of-free srs_table F s key t e).free), (pivot_of_free F t (step_of-free srs_table F s key t e).free))
 
   pub led_level : (keys : List Key) (s t : Placement) → StandsAt h piece s → All (λ key. IsTrue (allows Hard key)) keys → led (step_of srs_table F) (Some s) keys ≡ Some t → StandsAt h piece t
   led_level [] s t at allowed e = subst (StandsAt h piece) (some_same e) at
@@ -107,15 +102,10 @@ module _ (F : Field) (r : ℕ) (clear : IsClearFrom r F) (low : r ≤ 18) (s t :
       let tall : pos (t.y + above.rows) +ℤ rise t.piece t.rotation ≡ pos 20 = sym (ap upright above.is) ∙ height in
       let near : k - y ≤ above.rows = omega (arith, ints) in
       let raised : ◌≡◌ {A = Cell} (less (pos x, pos k) (pos t.x, pos (t.y + (k - y)))) c = (let same : pos k -ℤ pos (t.y + (k - y)) ≡ pos y -ℤ pos t.y = omega (arith, ints) in λ i. (pos x -ℤ pos t.x, same i)) in
-      let has_up = is_among-moved (pos t.x, pos (t.y + (k - y))) (shape t.piece t.rotation) (pos x, pos k) ∙ ap (is_among (shape t.piece t.rotation)) raised ∙ has_c in
-      let opened = is_among-all (is_open F) (cells_at t.piece t.rotation (pos t.x, pos (t.y + (k - y)))) (pos x, pos k) (above.free (k - y) near) has_up in
-      not-true (F x k) (and_parts (in_well (pos x, pos k)) (not (F x k)) opened).1
+      search (rules, (is_among-moved (pos t.x, pos (t.y + (k - y))) (shape t.piece t.rotation) (pos x, pos k)), (is_among-all (is_open F) (cells_at t.piece t.rotation (pos t.x, pos (t.y + (k - y)))) (pos x, pos k) (above.free (k - y) near)), (not-true (F x k)), (and_parts (in_well (pos x, pos k)) (not (F x k))))
 
   pub under_sky : IsUnderSky F t
-  under_sky = record {
-    inside = free_inside F t above.rests.free;
-    clear = λ x y k has up. elim (cases_lt k r) [ inl below ↦ not_filled x y k has up below | inr high ↦ clear.clear x k high ];
-  }
+  under_sky = search (rules, (free_inside F t above.rests.free), cases_lt, not_filled, high)
 
 -- the paths in the open have no Down
 pub path_allowed : (piece : Piece) (rotation : Rotation) (x : ℕ) → x < 10 → list_all (allows Hard) (path piece rotation x) ≡ true
@@ -127,13 +117,7 @@ module _ (F : Field) (r : ℕ) (clear : IsClearFrom r F) (t : Placement) (free :
   lower_open : (c : Cell) → is_among (shape t.piece t.rotation) c ≡ true → is_open F (moved (lowered t 1) c) ≡ true
   unfolding moved
   lower_open c has =
-      let lies = in_well-place (moved (pivot_of t) c) (inside_cell t c (free_inside F t free) has) in
-      let column : pos t.x +ℤ c.0 ≡ pos lies.x = ap (λ (c : Cell). c.0) lies.is in
-      let row : pos t.y +ℤ c.1 ≡ pos lies.y = ap (λ (c : Cell). c.1) lies.is in
-      let above = over c has in
-      let within : r ≤ lies.y - 1 = omega (arith, ints) in
-      let lower : (pos t.y -ℤ pos 1) +ℤ c.1 ≡ pos (lies.y - 1) = omega (arith, ints) in
-      sym (open_at F (moved (lowered t 1) c) lies.x (lies.y - 1) (λ i. (column i, lower i)) lies.in_columns (omega (arith, lies.in_rows))) ∙ ap not (clear.clear lies.x (lies.y - 1) within)
+      search (rules, (in_well-place (moved (pivot_of t) c) (inside_cell t c (free_inside F t free) has)), (open_at F (moved (lowered t 1) c) (in_well-place (moved (pivot_of t) c) (inside_cell t c (free_inside F t free) has)).x ((in_well-place (moved (pivot_of t) c) (inside_cell t c (free_inside F t free) has)).y - 1)))
 
   pub lower_free : is_free_at F t.piece t.rotation (lowered t 1) ≡ true
   unfolding is_free_at

@@ -7,13 +7,12 @@ use Rattle.std.proofs.lemmas.Bool.{and_parts, and_from, cases_Bool, cond-true, c
 use Rattle.lane_board.specs.Field.{Field}
 use Rattle.srs.specs.declared.piece.Piece.{Piece}
 use Rattle.srs.specs.declared.rotation.Rotation.{Rotation}
-use Rattle.srs.specs.declared.rotation.Rotation.TheVariants as Turn
 use Rattle.srs.specs.declared.placement.Placement.{Placement}
 use Rattle.srs.specs.Cells.{Cell, minus, moved, shape, cells_of, pivot_of, is_inside_of}
 use Rattle.srs.specs.SameCells.{cell_eq, is_among}
 use Rattle.srs.specs.Kick.{srs_table, kicks_of}
 use Rattle.srs.specs.Rotation.{clockwise_of, anticlockwise_of}
-use Rattle.srs.proofs.CallerLemmas.{cell_eq-decides, less, is_among-moved, is_among-all, each_state, each_piece, some_same, int_le-true}
+use Rattle.srs.proofs.CallerLemmas.{cell_eq-decides, less, is_among-moved, is_among-all, each_state, some_same, int_le-true}
 use Rattle.well.specs.Free.{is_free_at, is_free}
 use Rattle.well.proofs.CallerLemmas.{free_inside, free_pivot}
 use Rattle.moves.specs.declared.key.Key.{Key}
@@ -21,7 +20,7 @@ use Rattle.moves.specs.declared.key.Key.TheVariants.{Left, Right, Down, Clockwis
 use Rattle.moves.specs.declared.key.DropMode.TheVariants.{Soft, Hard}
 use Rattle.moves.specs.Keys.{allows}
 use Rattle.moves.specs.Leads.{spawned, spawn_of, state_after}
-use Rattle.moves.specs.Step.{state_at, first_free, shifted, turned, step_of}
+use Rattle.moves.specs.Step.{first_free, shifted, turned, step_of}
 use Rattle.moves.specs.Walk.{led}
 use Rattle.moves.proofs.StepLemmas.{step_of-free, pivot_of_free}
 use Rattle.moves.proofs.WalkLemmas.{not_some, led_none}
@@ -30,7 +29,6 @@ use Rattle.moves.specs.Sky.{IsClearFrom, IsUnderSky}
 use Rattle.moves.specs.RestingStates.{IsKeyed}
 use Rattle.moves.specs.Lanes.{lowest, lane, IsFloodBelow}
 use Rattle.moves.proofs.OpenLemmas.{open_height, natural, IsOpenHeight, free_fits}
-use Rattle.moves.proofs.SkyLemmas.{rise_spawn}
 use Rattle.moves.proofs.HardLemmas.{StandsAt, stays_level}
 use Rattle.moves.proofs.LaneFacts.{is_over, shape_over, near, cases_lane}
 
@@ -62,10 +60,8 @@ pub record LiftsBy (piece : Piece) (to : Rotation) (pivot : Cell) (test : Cell �
 pub lifts_by : (F : Field) (piece : Piece) (to : Rotation) (pivot : Cell) (test : Cell → Bool) (kicks : List Cell) (t : Placement) → list_all test kicks ≡ true → first_free F piece to (map (moved pivot) kicks) ≡ Some t → LiftsBy piece to pivot test t
 unfolding first_free moved
 lifts_by F piece to pivot test [] t all e = absurd (not_some e)
-lifts_by F piece to pivot test (k ∷ ks) t all e = elim (cases_Bool (is_free_at F piece to (moved pivot k))) [
-  | inl free ↦ search (rules, free_pivot, some_same, cond-true, and_parts)
-  | inr blocked ↦ lifts_by F piece to pivot test ks t (and_parts (test k) (list_all test ks) all).1 (sym (cond-false _ (state_at piece to (moved pivot k)) (first_free F piece to (map (moved pivot) ks)) blocked) ∙ e)
-]
+lifts_by F piece to pivot test (k ∷ ks) t all e =
+    search (rules, (cases_Bool (is_free_at F piece to (moved pivot k))), free_pivot, some_same, cond-true, and_parts, (lifts_by F piece to pivot test ks t (and_parts (test k) (list_all test ks) all).1), cond-false)
 
 -- no key lifts the upright height by more than two rows
 is_low_kick : Piece → Rotation → Rotation → Cell → Bool
@@ -147,9 +143,7 @@ module _ (F : Field) (r N : ℕ) (clear : IsClearFrom r F) (over : r + 2 ≤ N) 
       let h = natural (upright s) (omega (arith, ints, by.high)) in
       let is = h.is in
       let room : IsOpenHeight piece r h.n = open_height piece r h.n (omega (arith, ints, by.high)) (omega (arith, ints)) in
-      let there = stays_level F r clear h.n piece room s key t (stands s above h.n is) allowed e in
-      let height = there.height in
-      record { kind = there.kind; free = (step_of-free srs_table F s key t e).free; clear = omega (arith, ints, by.high, by_t.low); low = omega (arith, ints) }
+      search (rules, (stays_level F r clear h.n piece room s key t (stands s above h.n is) allowed e), (step_of-free srs_table F s key t e))
 
   down_open : (s t : Placement) → IsAbove N F piece s → step_of srs_table F s Down ≡ Some t → IsOpenState r F piece t
   down_open s t above e =
@@ -190,24 +184,8 @@ module _ (F : Field) (r N : ℕ) (clear : IsClearFrom r F) (over : r + 2 ≤ N) 
       next None f later = absurd (not_some (sym (led_none (step_of srs_table F) keys) ∙ ap (λ (o : Option Placement). led (step_of srs_table F) o keys) (sym f) ∙ e))
       next (Some u) f later = later u (next_in s u key here f) (ap (λ (o : Option Placement). led (step_of srs_table F) o keys) (sym f) ∙ e)
 
-spawn_lane : (piece : Piece) → int_le (pos 0) (lowest (shape piece Turn.Spawn)) ≡ true
-spawn_lane = each_piece (λ p. int_le (pos 0) (lowest (shape p Turn.Spawn))) refl
-
 -- the flood below lane N has each state below it to which keys lead
 pub keyed_in : (F : Field) (r N : ℕ) (piece : Piece) (S : Placement → Type 0) → IsClearFrom r F → r + 2 ≤ N → N ≤ 16 → IsFloodBelow N F piece S → (t : Placement) → t.piece ≡ piece → IsKeyed srs_table F Soft t → lane t <ℤ pos N → S t
 unfolding state_after spawned
-keyed_in F r N piece S clear over few flood t kind keyed below = elim (cases_Bool (is_free F (spawn_of piece))) [
-  | inl free ↦
-      let zero_rise = rise_spawn piece in
-      let on = int_le-true (pos 0) (lowest (shape piece Turn.Spawn)) (spawn_lane piece) in
-      let start : IsAbove N F piece (spawn_of piece) = record { kind = refl; free = free; lanes = omega (arith, ints); low = omega (arith, ints) } in
-      from (led_in F r N clear over few piece S flood keyed.keys (spawn_of piece) t (inr start)
-      (ap (λ (o : Option Placement). led (step_of srs_table F) o keyed.keys) (sym (cond-true _ (Some (spawn_of piece)) None free)) ∙ keyed_from))
-  | inr blocked ↦ absurd (not_some (sym (led_none (step_of srs_table F) keyed.keys) ∙ ap (λ (o : Option Placement). led (step_of srs_table F) o keyed.keys) (sym (cond-false _ (Some (spawn_of piece)) None blocked)) ∙ keyed_from))
-]
-  where
-    keyed_from : state_after srs_table F piece keyed.keys ≡ Some t
-    keyed_from = ap (λ (p : Piece). state_after srs_table F p keyed.keys) (sym kind) ∙ keyed.leads_there
-
-    from : S t ⊎ IsAbove N F piece t → S t
-    from h0 = search rules
+keyed_in F r N piece S clear over few flood t kind keyed below =
+    search (rules, (cases_Bool (is_free F (spawn_of piece))), (led_in F r N clear over few piece S flood keyed.keys (spawn_of piece) t), cond-true, not_some, (led_none (step_of srs_table F) keyed.keys), cond-false, keyed.leads_there)

@@ -1,7 +1,6 @@
 -- Keys in the open do what the model says.
-use Rattle.std.proofs.Common.{◌&&◌, ◌≡◌, ℕ, ◌+◌, ◌≤◌, Bool, true, not, ℤ, pos, negsuc, ◌+ℤ◌, ◌-ℤ◌, ◌≤ℤ◌, Option, Some, None, List, [], ◌∷◌, map, refl, sym, ap, subst, ◌∙◌, inl, inr, arith, rules}
+use Rattle.std.proofs.Common.{◌&&◌, ◌≡◌, ℕ, ◌+◌, ◌≤◌, Bool, true, ℤ, pos, negsuc, ◌+ℤ◌, ◌-ℤ◌, ◌≤ℤ◌, Option, Some, None, List, [], ◌∷◌, map, refl, sym, ap, subst, ◌∙◌, arith, rules}
 use Rattle.std.specs.Prelude.{int_le, nat_le, option_and_then}
-use Rattle.std.specs.Cmp.{signed_Decides}
 use Rattle.std.specs.Ordering.{int_eq}
 use Rattle.std.specs.List.{list_all}
 use Rattle.std.proofs.lemmas.Int.{ints}
@@ -24,7 +23,7 @@ use Rattle.moves.proofs.WalkLemmas.{not_some}
 use Rattle.moves.specs.Height.{depth, rise, is_column, fits_column}
 use Rattle.moves.specs.OpenKeys.{Spot, spot_in, first_fitting, level_kick, open_turn, open_shift, open_key, open_led}
 use Rattle.moves.specs.Sky.{IsClearFrom}
-use Rattle.srs.proofs.CallerLemmas.{each_state, some_same, int_le-true}
+use Rattle.srs.proofs.CallerLemmas.{some_same, int_le-true}
 use Rattle.moves.proofs.TableFacts.{is_level, shape_level, is_not_deep, shape_not_deep, depth_small}
 
 -- what holds of all by two tests holds by one that follows from them
@@ -62,9 +61,6 @@ open_column F cell opened = search (rules, and_parts, open_in_well, false≢true
 pub free_fits : (F : Field) (piece : Piece) (rotation : Rotation) (pivot : Cell) → is_free_at F piece rotation pivot ≡ true → fits_column piece rotation pivot.0 ≡ true
 unfolding is_free_at moved
 free_fits F piece rotation pivot free = search (rules, all_so, open_column, list_all-map)
-
-rise_small : (piece : Piece) (rotation : Rotation) → int_le (rise piece rotation) (pos 1) ≡ true
-rise_small = each_state (λ p r. int_le (rise p r) (pos 1)) refl
 
 -- where one step after another gives something, each does
 record Passes {A B : Type 0} (f : A → Option B) (o : Option A) (b : B) : Type 0 where
@@ -107,9 +103,7 @@ module _ (F : Field) (r : ℕ) (clear : IsClearFrom r F) (h : ℕ) (piece : Piec
       let low = int_le-true (minus 2) (c.1 -ℤ rise piece rotation) rows.0 in
       let high = int_le-true (c.1 -ℤ rise piece rotation) (pos 1) rows.1 in
       let y = natural (pivot.1 +ℤ c.1) (omega (arith, ints, room.low)) in
-      let top : y.n ≤ 22 = omega (arith, ints, room.high, y.is) in
-      let above : r ≤ y.n = omega (arith, ints, room.low, y.is) in
-      sym (open_at F (moved pivot c) x.n y.n (cells_same _ _ _ _ x.is y.is) x.within top) ∙ ap not (clear.clear x.n y.n above)
+      search (rules, (open_at F (moved pivot c) x.n y.n), cells_same)
 
   pub open_free : (rotation : Rotation) (pivot : Cell) → pivot.1 +ℤ rise piece rotation ≡ pos h → fits_column piece rotation pivot.0 ≡ true → is_free_at F piece rotation pivot ≡ true
   unfolding is_free_at
@@ -136,11 +130,7 @@ module _ (F : Field) (r : ℕ) (clear : IsClearFrom r F) (h : ℕ) (piece : Piec
     height : pos row +ℤ rise piece spot.0 ≡ pos h
 
   lands_at : (to : Rotation) (pivot : Cell) (spot : Spot) → pivot.1 +ℤ rise piece to ≡ pos h → spot_in piece to pivot.0 ≡ Some spot → Lands to pivot spot
-  lands_at to (pos x, z) spot height e =
-      let small = int_le-true (rise piece to) (pos 1) (rise_small piece to) in
-      let y = natural z (omega (arith, ints, room.low, (depth_is piece).some)) in
-      let same : ◌≡◌ {A = Spot} (to, x) spot = some_same e in
-      subst (λ spot. Lands to (pos x, z) spot) same (record { row = y.n; lands = ap (λ (z : ℤ). state_at piece to (pos x, z)) y.is; height = ap (λ (z : ℤ). z +ℤ rise piece to) (sym y.is) ∙ height })
+  lands_at to (pos x, z) spot height e = search (rules, (natural z), (depth_is piece), (some_same e))
   lands_at to (negsuc x, z) spot height e = absurd (not_some e)
 
   -- what is found is the state of a spot at the height
@@ -154,15 +144,8 @@ module _ (F : Field) (r : ℕ) (clear : IsClearFrom r F) (h : ℕ) (piece : Piec
 
   shift_goes : (rotation : Rotation) (x y : ℕ) (dx : ℤ) (to : Spot) → pos y +ℤ rise piece rotation ≡ pos h → open_shift piece rotation (pos x +ℤ dx) ≡ Some to → Goes (shifted F (state rotation x y) (dx, pos 0)) to
   unfolding shifted first_free moved
-  shift_goes rotation x y dx to height e = elim (cases_Bool (fits_column piece rotation (pos x +ℤ dx))) [
-    | inl fits ↦
-        let still : (pos y +ℤ pos 0) +ℤ rise piece rotation ≡ pos h = omega (arith, ints) in
-        let free = open_free rotation (pos x +ℤ dx, pos y +ℤ pos 0) still fits in
-        goes (shifted F (state rotation x y) (dx, pos 0)) rotation (pos x +ℤ dx, pos y +ℤ pos 0) to
-        (cond-true _ (state_at piece rotation (pos x +ℤ dx, pos y +ℤ pos 0)) None free) still
-        (sym (cond-true _ (spot_in piece rotation (pos x +ℤ dx)) None fits) ∙ e)
-    | inr out ↦ absurd (not_some (sym (cond-false _ (spot_in piece rotation (pos x +ℤ dx)) None out) ∙ e))
-  ]
+  shift_goes rotation x y dx to height e =
+      search (rules, (cases_Bool (fits_column piece rotation (pos x +ℤ dx))), (goes (shifted F (state rotation x y) (dx, pos 0)) rotation (pos x +ℤ dx, pos y +ℤ pos 0) to), cond-true, (open_free rotation (pos x +ℤ dx, pos y +ℤ pos 0)), not_some, cond-false)
 
   -- the kick that a turn in the open takes
   record IsKick (from to : Rotation) (x : ℕ) (kick : Cell) : Type 0 where
@@ -170,16 +153,13 @@ module _ (F : Field) (r : ℕ) (clear : IsClearFrom r F) (h : ℕ) (piece : Piec
     keeps : kick.1 +ℤ rise piece to ≡ rise piece from
 
   level_keeps : (from to : Rotation) (kick taken : Cell) → level_kick piece from to kick ≡ Some taken → (kick ≡ taken) × (kick.1 +ℤ rise piece to ≡ rise piece from)
-  level_keeps from to kick taken e = elim (cases_Bool (int_eq (kick.1 +ℤ rise piece to) (rise piece from))) [
-    | inl same ↦ (some_same (sym (cond-true _ (Some kick) None same) ∙ e), (signed_Decides (kick.1 +ℤ rise piece to) (rise piece from)).0 same)
-    | inr other ↦ absurd (not_some (sym (cond-false _ (Some kick) None other) ∙ e))
-  ]
+  level_keeps from to kick taken e =
+      search (rules, (cases_Bool (int_eq (kick.1 +ℤ rise piece to) (rise piece from))), some_same, cond-true, (kick.1 +ℤ rise piece to), not_some, cond-false)
 
   is_kick : (from to : Rotation) (x : ℕ) (kick : Cell) → open_turn piece from to x ≡ Some kick → IsKick from to x kick
   is_kick from to x kick e =
       let parts = and_then_some (level_kick piece from to) (first_fitting piece to (pos x) (kicks_of srs_table piece from to)) kick e in
-      let keeps = level_keeps from to parts.a kick parts.gives in
-      subst (IsKick from to x) keeps.0 (record { first = parts.is; keeps = keeps.1 })
+      search (rules, (level_keeps from to parts.a kick parts.gives))
 
   fitting_fits : (to : Rotation) (x : ℤ) (kicks : List Cell) (kick : Cell) → first_fitting piece to x kicks ≡ Some kick → fits_column piece to (x +ℤ kick.0) ≡ true
   fitting_fits to x [] kick e = absurd (not_some e)

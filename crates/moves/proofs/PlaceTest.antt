@@ -1,5 +1,5 @@
 -- The test of places decides which placements are places.
-use Rattle.std.proofs.Common.{◌≡◌, ◌↔◌, true, arith}
+use Rattle.std.proofs.Common.{◌≡◌, ◌↔◌, true, arith, rules}
 use Rattle.std.proofs.lemmas.Bool.{and_parts, and_from}
 use Rattle.lane_board.specs.Field.{Field}
 use Rattle.srs.specs.declared.placement.Placement.{Placement}
@@ -13,21 +13,14 @@ use Rattle.moves.specs.Leads.{spawned}
 use Rattle.moves.specs.Place.{IsPlace}
 use Rattle.moves.specs.PlaceTest.{most_states, comes_to_rest, is_place}
 use Rattle.moves.specs.States.{state_code}
-use Rattle.moves.proofs.WalkLemmas.{Found, short_keys, finds, found}
+use Rattle.moves.proofs.WalkLemmas.{short_keys, finds, found}
 use Rattle.moves.proofs.StepLemmas.{IsFreeState, step_is_finite, spawned-free}
 use Rattle.moves.proofs.RestTest.{to_tests, from_tests}
 
 from_test : (table : Table) (F : Field) (mode : DropMode) (placement : Placement) → is_place table F mode placement ≡ true → IsPlace table F mode placement
 unfolding is_place
 from_test table F mode placement holds =
-    let parts = and_parts (is_canonical placement) _ holds in
-    let way : Found (step_of table F) (allows mode) (comes_to_rest F placement) (spawned F placement.piece) =
-    found (step_of table F) (allows mode) (comes_to_rest F placement) most_states (spawned F placement.piece) parts.1 in
-    record {
-      canonical = IsCanonical-from_test placement parts.0;
-      keys = way.keys;
-      led_to = from_tests table F mode way.keys placement (record { state = way.target; leads = way.leads; rests = way.ends });
-    }
+    search (rules, (found (step_of table F) (allows mode) (comes_to_rest F placement) most_states (spawned F placement.piece)), (and_parts (is_canonical placement)), (IsCanonical-from_test placement), (from_tests table F mode))
 
 to_test : (table : Table) (F : Field) (mode : DropMode) (placement : Placement) → IsPlace table F mode placement → is_place table F mode placement ≡ true
 unfolding is_place

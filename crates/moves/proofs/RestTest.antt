@@ -1,5 +1,5 @@
 -- Keys that lead to a state whose rest has a placement's cells: said by tests, and by `LeadsToRest`.
-use Rattle.std.proofs.Common.{◌≡◌, ◌↔◌, suc, Bool, true, false, Option, Some, None, List, [], ◌∷◌, refl, sym, subst, arith, rules}
+use Rattle.std.proofs.Common.{◌≡◌, ◌↔◌, suc, Bool, true, false, Option, Some, None, List, [], ◌∷◌, refl, arith, rules}
 use Rattle.std.specs.List.{list_all, All}
 use Rattle.std.specs.Option.{option_map_or}
 use Rattle.std.specs.Prelude.{IsTrue}
@@ -8,14 +8,12 @@ use Rattle.lane_board.specs.Field.{Field}
 use Rattle.srs.specs.declared.piece.Piece.{Piece}
 use Rattle.srs.specs.declared.placement.Placement.{Placement}
 use Rattle.srs.specs.Kick.{Table}
-use Rattle.srs.specs.SameCells.{HasSameCells}
 use Rattle.srs.proofs.CallerLemmas.{is_same_cells-decides, list_all_each}
 use Rattle.moves.specs.declared.key.Key.{Key}
 use Rattle.moves.specs.declared.key.DropMode.{DropMode}
 use Rattle.moves.specs.Keys.{allows}
 use Rattle.moves.specs.Step.{step_of}
 use Rattle.moves.specs.Leads.{spawned, state_after}
-use Rattle.moves.specs.Rest.{rest_of}
 use Rattle.moves.specs.Place.{LeadsToRest}
 use Rattle.moves.specs.PlaceTest.{comes_to_rest, leads_to_rest}
 use Rattle.moves.specs.Walk.{led, Leads}
@@ -42,31 +40,16 @@ all_from_each test (key ∷ keys) each = and_from _ _ (each 0 key (omega arith))
 pub to_tests : (table : Table) (F : Field) (mode : DropMode) (keys : List Key) (placement : Placement) → LeadsToRest table F mode keys placement → LeadsByTest table F mode keys placement
 unfolding state_after comes_to_rest
 to_tests table F mode keys placement way =
-    let free = leads-free table F placement.piece keys way.state way.reached in
-    record {
-      state = way.state;
-      leads = record { each = all_from_each (allows mode) keys way.allowed; reached = way.reached };
-      rests = (is_same_cells-decides _ _).1 (subst (λ rest. HasSameCells rest placement) (rest_of-only F way.state way.rest free.free way.rests) way.same_cells);
-    }
+    search (rules, (all_from_each (allows mode) keys way.allowed), is_same_cells-decides, (rest_of-only F way.state way.rest (leads-free table F placement.piece keys way.state way.reached).free way.rests))
 
 pub from_tests : (table : Table) (F : Field) (mode : DropMode) (keys : List Key) (placement : Placement) → LeadsByTest table F mode keys placement → LeadsToRest table F mode keys placement
 unfolding state_after comes_to_rest
 from_tests table F mode keys placement way =
-    let free = leads-free table F placement.piece keys way.state way.leads.reached in
-    record {
-      allowed = λ k d within. list_all_each (allows mode) keys k d way.leads.each within;
-      state = way.state;
-      reached = way.leads.reached;
-      rest = rest_of F way.state;
-      rests = rest_of-is F way.state free.free;
-      same_cells = (is_same_cells-decides _ _).0 way.rests;
-    }
+    search (rules, (list_all_each (allows mode) keys), (rest_of-is F way.state (leads-free table F placement.piece keys way.state way.leads.reached).free), is_same_cells-decides)
 
 to_test : (table : Table) (F : Field) (mode : DropMode) (placement : Placement) (keys : List Key) → LeadsToRest table F mode keys placement → leads_to_rest table F mode placement keys ≡ true
 unfolding leads_to_rest state_after
-to_test table F mode placement keys leads =
-    let way = to_tests table F mode keys placement leads in
-    and_from _ _ way.leads.each (subst (λ s. option_map_or (comes_to_rest F placement) s false ≡ true) (sym way.leads.reached) way.rests)
+to_test table F mode placement keys leads = search (rules, and_from, (to_tests table F mode keys placement leads))
 
 from_test : (table : Table) (F : Field) (mode : DropMode) (placement : Placement) (keys : List Key) → leads_to_rest table F mode placement keys ≡ true → LeadsToRest table F mode keys placement
 unfolding leads_to_rest state_after

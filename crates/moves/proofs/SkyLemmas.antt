@@ -1,5 +1,5 @@
 -- Each state under an open sky is reached: at the spawn's height by turns and moves sideways, and from there down.
-use Rattle.std.proofs.Common.{◌≡◌, ℕ, zero, suc, ◌+◌, ◌-◌, ◌<◌, ◌≤◌, true, not, ◌||◌, ℤ, pos, ◌+ℤ◌, ◌-ℤ◌, ◌≤ℤ◌, Option, Some, None, ◌++◌, refl, sym, ap, subst, ◌∙◌, arith, rules}
+use Rattle.std.proofs.Common.{◌≡◌, ℕ, zero, suc, ◌+◌, ◌-◌, ◌<◌, ◌≤◌, true, ℤ, pos, ◌+ℤ◌, ◌-ℤ◌, ◌≤ℤ◌, Some, ◌++◌, refl, ap, subst, ◌∙◌, arith, rules}
 use Rattle.std.specs.Prelude.{int_le}
 use Rattle.std.proofs.lemmas.Int.{ints}
 use Rattle.std.proofs.lemmas.Bool.{and_parts, cond-true, false≢true, eqb-true}
@@ -23,17 +23,14 @@ use Rattle.moves.specs.Step.{first_free, shifted, step_of}
 use Rattle.moves.specs.Leads.{spawn_of, spawned, state_after}
 use Rattle.moves.specs.Walk.{led}
 use Rattle.moves.specs.Height.{rise, upright, fits_column}
-use Rattle.moves.specs.OpenKeys.{Spot, open_led, path, is_spot, repeated}
+use Rattle.moves.specs.OpenKeys.{open_led, path, repeated}
 use Rattle.moves.specs.Sky.{IsClearFrom, IsUnderSky, IsLedTo}
 use Rattle.moves.proofs.TableFacts.{is_level, shape_level, paths_lead}
 use Rattle.moves.proofs.OpenLemmas.{IsOpenHeight, open_height, open_free, free_fits, open_leads}
 
 -- the path leads where the piece fits
 path_is : (piece : Piece) (rotation : Rotation) (x : ℕ) → x < 10 → fits_column piece rotation (pos x) ≡ true → open_led piece (Some (Turn.Spawn, 4)) (path piece rotation x) ≡ Some (rotation, x)
-path_is piece rotation x within fits = from (open_led piece (Some (Turn.Spawn, 4)) (path piece rotation x)) refl (subst (λ b. (not b || is_spot rotation x (open_led piece (Some (Turn.Spawn, 4)) (path piece rotation x))) ≡ true) fits (paths_lead piece rotation x within))
-  where
-    from : (o : Option Spot) → open_led piece (Some (Turn.Spawn, 4)) (path piece rotation x) ≡ o → is_spot rotation x o ≡ true → o ≡ Some (rotation, x)
-    from o e there = search (rules, false≢true, and_parts, rotation_place-injective, eqb-true)
+path_is piece rotation x within fits = search (rules, (paths_lead piece rotation x within), false≢true, and_parts, rotation_place-injective, eqb-true)
 
 pub rise_spawn : (piece : Piece) → rise piece Turn.Spawn ≡ pos 0
 rise_spawn piece = (signed_Decides (rise piece Turn.Spawn) (pos 0)).0 (each_piece (λ p. int_eq (rise p Turn.Spawn) (pos 0)) refl piece)
@@ -54,11 +51,7 @@ high F r clear low piece rotation x within fits =
     let start : pos 20 +ℤ rise piece Turn.Spawn ≡ pos 20 = ap (λ (z : ℤ). pos 20 +ℤ z) (rise_spawn piece) in
     let spawn_free : is_free F (spawn_of piece) ≡ true = open_free F r clear 20 piece room Turn.Spawn (pos 4, pos 20) start (spawn_fits piece) in
     let goes = open_leads F r clear 20 piece room (path piece rotation x) Turn.Spawn 4 20 (rotation, x) start (path_is piece rotation x within fits) in
-    record {
-      row = goes.row;
-      height = goes.height;
-      leads_there = ap (λ (o : Option Placement). led (step_of srs_table F) o (path piece rotation x)) (cond-true _ (Some (spawn_of piece)) None spawn_free) ∙ goes.is;
-    }
+    search (rules, cond-true)
 
 -- a piece that is free at each row on the way falls
 module _ (table : Table) (F : Field) (piece : Piece) (rotation : Rotation) (x : ℕ) where
@@ -72,11 +65,7 @@ module _ (table : Table) (F : Field) (piece : Piece) (rotation : Rotation) (x : 
   pub falls : (y k : ℕ) → ((j : ℕ) → j ≤ k → is_free_at F piece rotation (pos x, pos (y + j)) ≡ true) →
       led (step_of table F) (Some (at_row (y + k))) (repeated Down k) ≡ Some (at_row y)
   falls y zero free = let same : y + 0 ≡ y = omega arith in ap (λ (y : ℕ). Some (at_row y)) same
-  falls y (suc k) free =
-      let same : y + suc k ≡ suc (y + k) = omega arith in
-      ap (λ (y : ℕ). led (step_of table F) (step_of table F (at_row y) Down) (repeated Down k)) same
-      ∙ ap (λ (o : Option Placement). led (step_of table F) o (repeated Down k)) (down_step (y + k) (free k (omega arith)))
-      ∙ falls y k (λ j within. free j (omega arith))
+  falls y (suc k) free = search (rules, (down_step (y + k)), (falls y k))
 
 -- a state under the sky is free, and so is what lies above it, up to the spawn's height
 module _ (F : Field) (s : Placement) (sky : IsUnderSky F s) where
@@ -88,11 +77,7 @@ module _ (F : Field) (s : Placement) (sky : IsUnderSky F s) where
       let clear = sky.clear lies.x lies.y (lies.y + j) (subst (λ (d : Cell). is_among (cells_of s) d ≡ true) lies.is is_cell) (omega arith) in
       let rows = and_parts (int_le (minus 2) (c.1 -ℤ rise s.piece s.rotation)) (int_le (c.1 -ℤ rise s.piece s.rotation) (pos 1)) (is_among-all (is_level s.piece s.rotation) (shape s.piece s.rotation) c (shape_level s.piece s.rotation) has) in
       let up = int_le-true (c.1 -ℤ rise s.piece s.rotation) (pos 1) rows.1 in
-      let column : pos s.x +ℤ c.0 ≡ pos lies.x = ap (λ (c : Cell). c.0) lies.is in
-      let row : pos s.y +ℤ c.1 ≡ pos lies.y = ap (λ (c : Cell). c.1) lies.is in
-      let higher : pos (s.y + j) +ℤ c.1 ≡ pos (lies.y + j) = omega (arith, ints) in
-      let top : lies.y + j ≤ 22 = omega (arith, ints) in
-      sym (open_at F (moved (pos s.x, pos (s.y + j)) c) lies.x (lies.y + j) (λ i. (column i, higher i)) lies.in_columns top) ∙ ap not clear
+      search (rules, (open_at F (moved (pos s.x, pos (s.y + j)) c) lies.x (lies.y + j)))
 
   pub sky_free : (j : ℕ) → (upright s +ℤ pos j) ≤ℤ pos 20 → is_free_at F s.piece s.rotation (pos s.x, pos (s.y + j)) ≡ true
   unfolding is_free_at

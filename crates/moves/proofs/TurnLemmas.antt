@@ -1,9 +1,8 @@
 -- One test of a turn after another, and how far a test moves the pivot.
-use Rattle.std.proofs.Common.{◌≡◌, ℕ, suc, ◌+◌, ◌-◌, ◌<◌, ◌≤◌, Bool, cond, pos, neg_ℤ, ◌-ℤ◌, Option, Some, None, List, [], ◌∷◌, map, refl, ap, arith, rules}
+use Rattle.std.proofs.Common.{◌≡◌, ℕ, suc, ◌+◌, ◌-◌, ◌<◌, ◌≤◌, Bool, cond, pos, neg_ℤ, Option, Some, None, List, [], ◌∷◌, map, refl, ap, arith, rules}
 use Rattle.std.specs.Bool.{then_some}
 use Rattle.std.specs.List.{range_with_len}
 use Rattle.std.proofs.lemmas.Bool.{cases_Bool, cond-true, cond-false, false_from_ne_true}
-use Rattle.std.proofs.lemmas.Int.{ints}
 use Rattle.lane_board.specs.Field.{Field}
 use Rattle.srs.specs.declared.offset.Offset.{Offset}
 use Rattle.srs.specs.declared.piece.Piece.{Piece}
@@ -73,8 +72,4 @@ small_offset table piece rotation test small first last = search (rules, small_w
 -- a kick is the difference of two of them
 pub kick_is_short : (table : Table) (piece : Piece) (from to : Rotation) (test : ℕ) (change : Offset) → IsSmallTable table → 1 ≤ test → test ≤ 5 → pair_of change ≡ kick_in table piece from to test → IsShort change
 kick_is_short table piece from to test change small first last e =
-    let left = small_offset table piece from test small first last in
-    let reached = small_offset table piece to test small first last in
-    let x : change.dx ≡ (offset_in table piece from test).0 -ℤ (offset_in table piece to test).0 = ap (λ (c : Cell). c.0) e in
-    let y : change.dy ≡ (offset_in table piece from test).1 -ℤ (offset_in table piece to test).1 = ap (λ (c : Cell). c.1) e in
-    record { left = omega (arith, ints, left.left, reached.right); right = omega (arith, ints, left.right, reached.left); down = omega (arith, ints, left.down, reached.up); up = omega (arith, ints, left.up, reached.down) }
+    search (rules, (small_offset table piece from test small first last), (small_offset table piece to test small first last))

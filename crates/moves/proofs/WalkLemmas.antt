@@ -115,11 +115,7 @@ module _ (next : Placement → Key → Option Placement) (good : Placement → T
   short_keys start target keys from leads =
       let way : Simple start target = simple start target keys from leads in
       let few : length (codes start way.keys) ≤ bound = length-le_from_distinct_below _ bound way.distinct (codes_below start way.keys from) in
-      record {
-        keys = way.keys;
-        leads = way.leads;
-        few = omega (arith, length-map (visited next start way.keys) code, visited_length next start target way.keys way.leads.reached);
-      }
+      search (rules, (length-map (visited next start way.keys) code), (visited_length next start target way.keys way.leads.reached))
 
 -- some key passes the test where one does
 any_key : (test : Key → Bool) (key : Key) → test key ≡ true → list_any test all_keys ≡ true
@@ -146,9 +142,7 @@ module _ (next : Placement → Key → Option Placement) (allowed : Key → Bool
   finds zero (Some s) target (key ∷ keys) few leads ends = absurd (omega arith)
   finds (suc n) (Some s) target [] few leads ends = or_left _ _ (subst (λ t. passes t ≡ true) (sym (some_same leads.reached)) ends)
   finds (suc n) (Some s) target (key ∷ keys) few leads ends =
-      let parts = and_parts (allowed key) (list_all allowed keys) leads.each in
-      let later = finds n (next s key) target keys (omega arith) (record { each = parts.1; reached = leads.reached }) ends in
-      or_right (passes s) _ (any_key (λ key. allowed key && option_map_or (some_keys_lead next allowed passes n) (next s key) false) key (and_from _ _ parts.0 later))
+      search (rules, (finds n (next s key) target keys), (and_parts (allowed key) (list_all allowed keys) leads.each), (or_right (passes s)), (any_key (λ key. allowed key && option_map_or (some_keys_lead next allowed passes n) (next s key) false) key), and_from)
 
   -- what it finds are such keys
   pub found : (n : ℕ) (start : Option Placement) → option_map_or (some_keys_lead next allowed passes n) start false ≡ true → Found next allowed passes start

@@ -34,7 +34,7 @@ use Rattle.moves.specs.Lanes.{lowest, lane}
 use Rattle.moves.specs.Window.{is_low, low_step, IsStart, IsWindowed, IsWindowPlace}
 use Rattle.moves.proofs.TableFacts.{is_level, shape_level}
 use Rattle.moves.proofs.OpenLemmas.{all_so, natural, open_height, IsOpenHeight, free_fits}
-use Rattle.moves.proofs.SkyLemmas.{rise_spawn, sky_is_reached, sky_free}
+use Rattle.moves.proofs.SkyLemmas.{sky_is_reached, sky_free}
 use Rattle.moves.proofs.AboveRest.{StandsAbove, stands_above, comes_to_rest}
 use Rattle.moves.proofs.SoftPlaces.{soft_allows, soft_places, own_rest, leads-append}
 use Rattle.moves.proofs.HardLemmas.{StandsAt, stays_level, led_level}
@@ -94,8 +94,7 @@ start_open F r s clear few start =
     let b = start.to_row in
     let under : upright s ≤ℤ pos 20 = omega (arith, ints, rises.high) in
     let sky = inside_under_sky F r clear s start.inside (omega (arith, ints, deep)) in
-    let none : s.y + 0 ≡ s.y = omega arith in
-    record { sky = sky; low = under; free = subst (λ (y : ℕ). is_free_at F s.piece s.rotation (pos s.x, pos y) ≡ true) none (sky_free F s sky 0 (omega (arith, ints))) }
+    search (rules, (sky_free F s sky 0))
 
 -- Window places are places: with soft drop the start is reached, and the keys go on from there.
 windowed_soft : (F : Field) (r : ℕ) (s : Placement) → IsClearFrom r F → r ≤ 8 → IsWindowed F r Soft s → IsKeyed srs_table F Soft s
@@ -129,13 +128,7 @@ module _ (F : Field) (r : ℕ) (clear : IsClearFrom r F) (few : r ≤ 8) (piece 
       let tall = high.tall in
       let low = high.low in
       let h = natural (upright s) (omega (arith, ints)) in
-      let is = h.is in
-      let pivot = pivot_of_free F s high.free in
-      let room : IsOpenHeight piece r h.n = open_height piece r h.n (omega (arith, ints)) (omega (arith, ints)) in
-      let at : StandsAt h.n piece s = record { kind = high.kind; height = is; fits = free_fits F s.piece s.rotation (pos s.x, pos s.y) high.free; column = omega (arith, pivot.in_columns) } in
-      let there = stays_level F r clear h.n piece room s key t at allowed e in
-      let height = there.height in
-      record { kind = there.kind; free = (step_of-free srs_table F s key t e).free; tall = omega (arith, ints); low = omega (arith, ints) }
+      search (rules, (open_height piece r h.n), (free_fits F s.piece s.rotation (pos s.x, pos s.y) high.free), (pivot_of_free F s high.free), (stays_level F r clear h.n piece), (step_of-free srs_table F s key t e))
 
   -- from the band Down leads into the window
   down_high : (s t : Placement) → IsHigh F r piece s → step_of srs_table F s Down ≡ Some t → Here t
@@ -209,16 +202,8 @@ module _ (F : Field) (r : ℕ) (clear : IsClearFrom r F) (few : r ≤ 8) (piece 
 
   keyed_here : (t : Placement) → t.piece ≡ piece → IsKeyed srs_table F Soft t → Here t
   unfolding state_after spawned Here
-  keyed_here t kind keyed = elim (cases_Bool (is_free F (spawn_of piece))) [
-    | inl free ↦
-        let none = rise_spawn piece in
-        let start : IsHigh F r piece (spawn_of piece) = record { kind = refl; free = free; tall = omega (arith, ints); low = omega (arith, ints) } in
-        led_here keyed.keys (spawn_of piece) t (inl start) (ap (λ (o : Option Placement). led (step_of srs_table F) o keyed.keys) (sym (cond-true _ (Some (spawn_of piece)) None free)) ∙ from)
-    | inr blocked ↦ absurd (not_some (sym (led_none (step_of srs_table F) keyed.keys) ∙ ap (λ (o : Option Placement). led (step_of srs_table F) o keyed.keys) (sym (cond-false _ (Some (spawn_of piece)) None blocked)) ∙ from))
-  ]
-    where
-      from : state_after srs_table F piece keyed.keys ≡ Some t
-      from = ap (λ (p : Piece). state_after srs_table F p keyed.keys) (sym kind) ∙ keyed.leads_there
+  keyed_here t kind keyed =
+      search (rules, (cases_Bool (is_free F (spawn_of piece))), (led_here keyed.keys (spawn_of piece) t), cond-true, not_some, (led_none (step_of srs_table F) keyed.keys), cond-false)
 
   -- a resting state does not stand high
   rest_windowed : (t : Placement) → IsResting F t → Here t → IsWindowed F r Soft t

@@ -58,12 +58,14 @@ pub fn turns_keep_the_height()
 {}
 
 /// Keys lead to every state under the sky that is no higher than the spawn.
+#[tactic(auto, using(crate::proofs::SkyLemmas::sky_is_reached))]
 pub fn sky_is_reached()
     ensures { SkyIsReached }
 {}
 
 /// With soft drop, the places are the resting states that keys lead to. If keys lead to every resting state, all of
 /// them are places.
+#[tactic(auto, using(crate::proofs::SoftPlaces::soft_places, crate::proofs::SoftPlaces::early_end))]
 pub fn rests_are_places()
     ensures reached { PlacesAreRests }
     ensures all { AllRestsArePlaces }

@@ -8,6 +8,7 @@ use srs::Placement;
 use well::Well;
 
 /// The state moved down as long as it stays free.
+#[tactic(auto, using(well::proofs::CallerLemmas::free_pivot_inside, crate::proofs::RestLemmas::rests_blocked, crate::proofs::RestLemmas::falls_further, crate::proofs::RestLemmas::rests_in_row_0))]
 pub fn fall(well: &Well, state: &Placement) -> Placement
     requires { IsTrue (is_free (filled well.now) state.now) }
     ensures { IsRest (filled well.now) state.now result }

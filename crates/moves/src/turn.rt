@@ -64,6 +64,7 @@ fn turned(well: &Well, rules: &Rules, state: &Placement, to: Rotation) -> Option
 }
 
 /// The state in this rotation with its pivot moved, if that is free.
+#[tactic(auto, using(well::proofs::CallerLemmas::free_pivot_inside, std::proofs::lemmas::Int::ints, crate::proofs::TurnLemmas::none_outside, crate::proofs::TurnLemmas::some_inside), unfolding(srs::specs::Cells::moved))]
 fn free_at(well: &Well, state: &Placement, rotation: Rotation, change: Offset) -> Option<Placement>
     requires free { IsTrue (is_free (filled well.now) state.now) }
     requires short { IsShort change }

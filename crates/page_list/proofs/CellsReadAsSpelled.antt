@@ -1,5 +1,5 @@
 -- The form of the cells field and the function that reads it agree.
-use Rattle.std.proofs.Common.{◌≡◌, ℕ, ◌+◌, ◌-◌, ◌*◌, ◌≤◌, true, false, ◌==◌, nat_le, List, [], ◌∷◌, ◌++◌, length, length-append, map, replicate, codes, Option, Some, option_and_then, All, refl, ap, sym, subst, ◌∙◌, append-nil, inl, inr, ne_eqb, eqb-true, leb-true, le-leb, arith, rules}
+use Rattle.std.proofs.Common.{◌≡◌, ℕ, ◌+◌, ◌-◌, ◌*◌, ◌≤◌, false, ◌==◌, nat_le, List, [], ◌∷◌, ◌++◌, length, length-append, map, replicate, codes, Option, Some, option_and_then, All, refl, ap, sym, subst, ◌∙◌, append-nil, inl, inr, ne_eqb, eqb-true, leb-true, le-leb, arith, rules}
 use Rattle.std.specs.List.{flat_map, join_with_byte, AllByRecursion}
 use Rattle.std.proofs.lemmas.Bool.{agree_below_at, cases_Bool}
 use Rattle.std.proofs.lemmas.Bool.Decides.{nat_tests}
@@ -121,9 +121,7 @@ read_row : (first behind : List ℕ) (column : ℕ) → column + length first �
 unfolding rows_at
 read_row [] behind column size small = let ten : column ≡ 10 = omega arith in ap (λ n. rows_at n behind) ten ∙ sym (no_front (rows_at 10 behind))
 read_row (colour ∷ first) behind column size small =
-    let short : (column == 10) ≡ false = ne_eqb column 10 (λ e. omega (arith, e, size)) in
-    rw (short, colour_read colour (All-head IsColour colour first small)) (ap (with_front (colour ∷ [])) (read_row first behind (column + 1) (omega (arith, size)) (All-tail IsColour colour first small))
-    ∙ fronts (colour ∷ []) first (rows_at 10 behind))
+    search (rules, (ne_eqb column 10), (colour_read colour (All-head IsColour colour first small)), (read_row first behind (column + 1)), (All-tail IsColour colour first small), (fronts (colour ∷ []) first (rows_at 10 behind)))
 
 read_rows : (rows : List (List ℕ)) → All IsPageRow rows → rows_at 10 (slash_rows rows) ≡ Some (flat rows)
 unfolding rows_at
@@ -132,9 +130,7 @@ read_rows (row ∷ rows) each =
     search (rules, All-head, read_row, All-tail, read_rows rows (All-tail IsPageRow row rows each))
 
 read_all : (row : List ℕ) (rows : List (List ℕ)) → All IsPageRow (row ∷ rows) → rows_at 0 (letters_of row ++ slash_rows rows) ≡ Some (flat (row ∷ rows))
-read_all row rows each =
-    let is = All-head IsPageRow row rows each in
-    read_row row (slash_rows rows) 0 (let size = is.size in omega arith) is.colours ∙ ap (with_front row) (read_rows rows (All-tail IsPageRow row rows each))
+read_all row rows each = search (rules, (read_row row (slash_rows rows) 0), (All-head IsPageRow row rows each), (read_rows rows (All-tail IsPageRow row rows each)))
 
 -- ---- up to 23 rows
 
@@ -171,16 +167,7 @@ read_from_rows : (rows : List (List ℕ)) → length rows ≤ 23 → All IsPageR
 unfolding rows_colours
 read_from_rows [] most each = refl
 read_from_rows (row ∷ rows) most each =
-    let text = letters_of row ++ slash_rows rows in
-    let is = All-head IsPageRow row rows each in
-    let size : length text ≡ 10 + 11 * length rows =
-    length-append (letters_of row) (slash_rows rows) ∙ omega (arith, is.size, length-map row colour_letter, length-slash_rows rows (All-tail IsPageRow row rows each)) in
-    let some : (length text == 0) ≡ false = ne_eqb (length text) 0 (λ e. omega (arith, e, size)) in
-    let few : nat_le (length text) 252 ≡ true = le-leb (length text) 252 (omega (arith, most, size)) in
-    ap rows_colours (joined row rows) ∙ chosen text some few ∙ read_all row rows each
-  where
-    chosen : (text : List ℕ) → (length text == 0) ≡ false → nat_le (length text) 252 ≡ true → rows_colours text ≡ rows_at 0 text
-    chosen text some few = rw (some, few) refl
+    search (rules, (length-append (letters_of row) (slash_rows rows)), (All-head IsPageRow row rows each), (length-map row colour_letter), (length-slash_rows rows (All-tail IsPageRow row rows each)), (ne_eqb (length (letters_of row ++ slash_rows rows)) 0), (le-leb (length (letters_of row ++ slash_rows rows)) 252), (joined row rows), (read_all row rows each))
 
 -- ---- the garbage row
 
@@ -207,9 +194,7 @@ read_from_garbage : (text garbage : List ℕ) → SpellsGarbage text garbage →
 unfolding garbage_colours
 read_from_garbage text garbage left_out = refl
 read_from_garbage text garbage (written {row = row} is) =
-    let size : length (letters_of row) ≡ 10 = length-map row colour_letter ∙ is.size in
-    let one : rows_at 0 (letters_of row) ≡ Some row = ap (rows_at 0) (sym (append-nil (letters_of row))) ∙ read_all row [] (All-cons IsPageRow row [] is (All-nil IsPageRow)) ∙ ap (λ (l : List ℕ). Some l) (append-nil row) in
-    rw (size) one
+    search (rules, (length-map row colour_letter), (append-nil (letters_of row)), (read_all row [] (All-cons IsPageRow row [] is (All-nil IsPageRow))), (append-nil row))
 
 -- ---- the whole field
 
@@ -250,7 +235,4 @@ rows_all P each slash (row ∷ next ∷ rows) are =
 pub spelled_cells_read : (text cells : List ℕ) → SpellsLineCells text cells → cells_in text ≡ Some cells
 unfolding cells_in
 spelled_cells_read text cells s =
-    let rows_text = join_with_byte 47 (map letters_of s.rows) in
-    let cut = ap (cut_at 124) s.spelled ∙ cut_front 124 rows_text s.garbage_text (rows_all (λ byte. (byte == 124) ≡ false) no_bar refl s.rows s.each) in
-    rw (cut, read_from_rows s.rows s.most s.each, read_from_garbage s.garbage_text s.garbage s.garbage_spelled)
-    (ap (λ n. Some (replicate (230 - n) 0 ++ (flat s.rows ++ s.garbage))) (length_of_rows s.rows s.each) ∙ ap (λ (l : List ℕ). Some l) (sym s.cells_are))
+    search (rules, (cut_front 124 (join_with_byte 47 (map letters_of s.rows)) s.garbage_text (rows_all (λ byte. (byte == 124) ≡ false) no_bar refl s.rows s.each)), (read_from_rows s.rows s.most s.each), (read_from_garbage s.garbage_text s.garbage s.garbage_spelled), (length_of_rows s.rows s.each))

@@ -30,11 +30,7 @@ again byte f b = grind (arith, common_steps)
 pub cut_front : (byte : ℕ) (front behind : List ℕ) → All (λ c. (c == byte) ≡ false) front → cut_at byte (front ++ byte ∷ behind) ≡ Some (front, behind)
 unfolding cut_at
 cut_front byte front behind lacks =
-    let at = place byte front behind lacks in
-    let within : length front < length (front ++ byte ∷ behind) = omega (arith, length-append front (byte ∷ behind)) in
-    rw (at, lt-ltb (length front) (length (front ++ byte ∷ behind)) within) (parts (take (length front) (front ++ byte ∷ behind)) front (drop (length front + 1) (front ++ byte ∷ behind)) behind (take_at front (byte ∷ behind) (length front) refl) rest) where
-      rest : drop (length front + 1) (front ++ byte ∷ behind) ≡ behind
-      rest = ap (drop (length front + 1)) (again byte front behind) ∙ drop_at (front ++ byte ∷ []) behind (length front + 1) (length-append front (byte ∷ []))
+    search (rules, (length-append front (byte ∷ behind)), (place byte front behind lacks), (lt-ltb (length front) (length (front ++ byte ∷ behind))), (parts (take (length front) (front ++ byte ∷ behind)) front (drop (length front + 1) (front ++ byte ∷ behind)) behind (take_at front (byte ∷ behind) (length front) refl)), (again byte front behind), (drop_at (front ++ byte ∷ []) behind (length front + 1) (length-append front (byte ∷ []))))
 
 -- the text before the first such byte, and the text behind it
 pub record IsCut (byte : ℕ) (text : List ℕ) (cut : List ℕ × List ℕ) : Type 0 where

@@ -1,5 +1,5 @@
 -- The first line of a text, as a relation and as it is read.
-use Rattle.std.proofs.Common.{◌≡◌, ℕ, ◌+◌, ◌-◌, ◌<◌, Bool, true, false, ◌==◌, ◌&&◌, nat_lt, List, [], ◌∷◌, ◌++◌, length, length-append, get_or, slice_index, take-append-drop, drop-cons, Some, None, refl, ap, sym, subst, ◌∙◌, ◌⊎◌, inl, inr, append_assoc, eqb-true, ltb-true, ltb-false, lt-ltb, true≢false, arith, rules}
+use Rattle.std.proofs.Common.{◌≡◌, ℕ, ◌-◌, ◌<◌, Bool, true, false, ◌==◌, ◌&&◌, nat_lt, List, [], ◌∷◌, ◌++◌, length, length-append, get_or, slice_index, take-append-drop, drop-cons, Some, None, refl, ap, sym, subst, ◌∙◌, ◌⊎◌, inl, inr, append_assoc, eqb-true, ltb-true, ltb-false, lt-ltb, true≢false, arith, rules}
 use Rattle.std.proofs.Math.Seq.{get_or-append_seam}
 use Rattle.std.proofs.lemmas.Bool.{cases_Bool, and_parts, and_from}
 use Rattle.std.proofs.lemmas.List.{take_at, drop_all}
@@ -70,10 +70,7 @@ whole_line text plain = rw (uncut text plain) refl
 pub first_line_read : (text line behind : List ℕ) → IsFirstLine text line behind → first_line text ≡ (line, behind)
 first_line_read text line behind (newline plain without) = cut_line line behind plain ∙ ap (λ (l : List ℕ). (l, behind)) (stays line without)
 first_line_read text line behind (return_newline plain) =
-    ap first_line (sym (append_assoc line (13 ∷ []) (10 ∷ behind))) ∙ cut_line (line ++ 13 ∷ []) behind (All-append (λ byte. (byte == 10) ≡ false) line (13 ∷ []) plain one) ∙ ap (λ (l : List ℕ). (l, behind)) (return_dropped line)
-  where
-    one : HasNoNewline (13 ∷ [])
-    one = All-cons (λ byte. (byte == 10) ≡ false) 13 [] refl (All-nil (λ byte. (byte == 10) ≡ false))
+    search (rules, (append_assoc line (13 ∷ []) (10 ∷ behind)), (cut_line (line ++ 13 ∷ []) behind), (All-append (λ byte. (byte == 10) ≡ false) line (13 ∷ []) plain), (return_dropped line), (All-cons (λ byte. (byte == 10) ≡ false) 13 [] refl (All-nil (λ byte. (byte == 10) ≡ false))))
 first_line_read text line behind (unended plain some) = whole_line line plain
 
 pub first_line_some : (text line behind : List ℕ) → IsFirstLine text line behind → 0 < length text

@@ -93,13 +93,7 @@ line_spelled line page is =
 pub spelled_line_read : (line : List ℕ) (page : Page) → SpellsPage line page → line_in line ≡ Ok page
 unfolding line_in
 spelled_line_read line page s =
-    rw (
-      divided_read line s.four s.divided,
-      spelled_cells_read s.four.cells page.cells s.cells,
-      spelled_operation_read s.four.operation page.operation s.operation,
-      spelled_page_flags_read s.four.flags page s.flags,
-      spelled_comment_read s.four.comment page.comment s.comment,
-    ) refl
+    search (rules, (divided_read line s.four s.divided), (spelled_cells_read s.four.cells page.cells s.cells), (spelled_operation_read s.four.operation page.operation s.operation), (spelled_page_flags_read s.four.flags page s.flags), (spelled_comment_read s.four.comment page.comment s.comment))
 
 -- ---- faults
 
@@ -155,23 +149,8 @@ faulty_line_read line BadLine f = rw (none_from (IsDivided line) (four_in line) 
 faulty_line_read line BadCells f =
     rw (divided_read line f.0 f.1, none_from (SpellsLineCells f.0.cells) (cells_in f.0.cells) (cells_spelled f.0.cells) f.2) refl
 faulty_line_read line BadOperation f =
-    rw (
-      divided_read line f.0 f.1,
-      spelled_cells_read f.0.cells f.2.0 f.2.1,
-      none_from (SpellsLineOperation f.0.operation) (operation_in f.0.operation) (operation_spelled f.0.operation) f.3,
-    ) refl
+    search (rules, (divided_read line f.0 f.1), (spelled_cells_read f.0.cells f.2.0 f.2.1), (none_from (SpellsLineOperation f.0.operation) (operation_in f.0.operation) (operation_spelled f.0.operation) f.3))
 faulty_line_read line BadFlags f =
-    rw (
-      divided_read line f.0 f.1,
-      spelled_cells_read f.0.cells f.2.0 f.2.1,
-      spelled_operation_read f.0.operation f.3.0 f.3.1,
-      none_from (λ flags. SpellsLineFlags f.0.flags (flagged flags)) (flags_in f.0.flags) (flags_spelled f.0.flags) (λ flags. f.4 (flagged flags)),
-    ) refl
+    search (rules, (divided_read line f.0 f.1), (spelled_cells_read f.0.cells f.2.0 f.2.1), (spelled_operation_read f.0.operation f.3.0 f.3.1), (none_from (λ flags. SpellsLineFlags f.0.flags (flagged flags)) (flags_in f.0.flags) (flags_spelled f.0.flags) (λ flags. f.4 (flagged flags))))
 faulty_line_read line BadComment f =
-    rw (
-      divided_read line f.0 f.1,
-      spelled_cells_read f.0.cells f.2.0 f.2.1,
-      spelled_operation_read f.0.operation f.3.0 f.3.1,
-      spelled_page_flags_read f.0.flags f.4.0 f.4.1,
-      none_from (SpellsLineComment f.0.comment) (comment_in f.0.comment) (comment_spelled f.0.comment) f.5,
-    ) refl
+    search (rules, (divided_read line f.0 f.1), (spelled_cells_read f.0.cells f.2.0 f.2.1), (spelled_operation_read f.0.operation f.3.0 f.3.1), (spelled_page_flags_read f.0.flags f.4.0 f.4.1), (none_from (SpellsLineComment f.0.comment) (comment_in f.0.comment) (comment_spelled f.0.comment) f.5))

@@ -1,5 +1,5 @@
 -- Lines that are read one after the other.
-use Rattle.std.proofs.Common.{◌≡◌, ℕ, ◌+◌, ◌-◌, ◌<◌, ◌==◌, Bool, false, List, [], ◌∷◌, ◌++◌, length, length-drop, take, drop, refl, ap, append_assoc, append-nil, lt-ltb, le-ltb, ne_eqb, if◌then◌else◌, arith, rules}
+use Rattle.std.proofs.Common.{◌≡◌, ℕ, ◌+◌, ◌<◌, ◌==◌, Bool, false, List, [], ◌∷◌, ◌++◌, length, length-drop, take, drop, refl, ap, append_assoc, append-nil, lt-ltb, le-ltb, ne_eqb, if◌then◌else◌, arith, rules}
 use Rattle.std.specs.Prelude.{IsOk, ◌⊎◌, nat_lt, Result, Ok, Err}
 use Rattle.std.specs.List.{position_or_len}
 use Rattle.std.proofs.lemmas.Bool.{cases_lt}

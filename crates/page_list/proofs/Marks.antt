@@ -1,5 +1,5 @@
 -- Each byte of a field that spells something is a character from `!` to `~`.
-use Rattle.std.proofs.Common.{ℕ, ◌<◌, ◌≤◌, Bool, true, ◌&&◌, List, [], ◌∷◌, ◌++◌, length, length-append, map, Option, All, refl, sym, subst, ne_eqb, arith, rules}
+use Rattle.std.proofs.Common.{ℕ, ◌<◌, ◌≤◌, Bool, true, ◌&&◌, List, [], ◌∷◌, ◌++◌, length, length-append, map, Option, All, refl, ne_eqb, arith, rules}
 use Rattle.std.specs.Prelude.{decimal}
 use Rattle.std.specs.Fmt.{digits}
 use Rattle.std.specs.List.{list_all, join_with_byte}
@@ -41,11 +41,7 @@ garbage_marks text garbage (written {row = row} is) = letters_all IsMark letter_
 
 pub cells_marks : (text cells : List ℕ) → SpellsLineCells text cells → HasMarks text
 cells_marks text cells s =
-    let rows = join_with_byte 47 (map letters_of s.rows) in
-    subst HasMarks (sym s.spelled) (record {
-      some = omega (arith, length-append rows (124 ∷ s.garbage_text));
-      marks = All-append IsMark rows (124 ∷ s.garbage_text) (rows_all IsMark letter_mark (mark_is 47 refl) s.rows s.each) (All-cons IsMark 124 s.garbage_text (mark_is 124 refl) (garbage_marks s.garbage_text s.garbage s.garbage_spelled));
-    })
+    search (rules, (length-append (join_with_byte 47 (map letters_of s.rows)) (124 ∷ s.garbage_text)), (All-append IsMark (join_with_byte 47 (map letters_of s.rows)) (124 ∷ s.garbage_text) (rows_all IsMark letter_mark (mark_is 47 refl) s.rows s.each) (All-cons IsMark 124 s.garbage_text (mark_is 124 refl) (garbage_marks s.garbage_text s.garbage s.garbage_spelled))))
 
 -- ---- operations
 

@@ -83,10 +83,7 @@ taken (Err fault) next pages is = cc
 
 stops : {A : Type 0} (read : Result A ListFault) (next : A → Read) (fault : ListFault) → (read >>= next) ≡ Err fault → (read ≡ Err fault) ⊎ Taken read next (Err fault)
 stops (Ok value) next fault is = inr (record { value = value; is = refl; gives = is })
-stops (Err one) next fault is = inl (ap (λ (f : ListFault). Err f) (same one fault is))
-  where
-    same : (one other : ListFault) → ◌≡◌ {A = Read} (Err one) (Err other) → one ≡ other
-    same one other e = cc
+stops (Err one) next fault is = search rules
 
 same_pages : (one other : List Page) → ◌≡◌ {A = Read} (Ok one) (Ok other) → one ≡ other
 same_pages one other e = cc
@@ -163,11 +160,7 @@ read_on : (text rest : List ℕ) (pages : List Page) (count : ℕ) → SpellsFir
 unfolding pages_from
 read_on text rest [] count none few = search (rules, from_start)
 read_on text rest (page ∷ pages) count (more {line = line} {behind = later} first s others) few =
-    let size : count + 1 + length pages + 1 ≡ count + suc (length pages) + 1 = omega arith in
-    let lines = ap (pages_from (count + 1)) (lines_at text line later first) in
-    let one = page_read (count + 1) line page (omega (arith, few)) s in
-    lines ∙ rw one (ap (λ (r : Read). r >>= (λ others. Ok (page ∷ others))) (read_on later rest pages (count + 1) others (omega (arith, few)))
-    ∙ in_front page pages (pages_from (count + 1 + length pages + 1) (lines_of rest)) ∙ ap (λ n. behind (page ∷ pages) (pages_from n (lines_of rest))) size)
+    search (rules, (page_read (count + 1) line page), (lines_at text line later first), (read_on later rest pages (count + 1) others), (in_front page pages (pages_from (count + 1 + length pages + 1) (lines_of rest))), (behind (page ∷ pages)))
 
 -- ---- the laws
 
@@ -175,33 +168,19 @@ from_zero : (n : ℕ) → 0 + n ≡ n
 from_zero n = omega arith
 
 pub pages_spelled : (text : List ℕ) (pages : List Page) → pages_in text ≡ Ok pages → SpellsPages text pages
-pages_spelled text pages is =
-    let all = spelled_from (lines_of text) 0 text pages (omega arith) refl is in
-    record { most = omega (arith, all.most); spelled = all.spelled }
+pages_spelled text pages is = search (rules, (spelled_from (lines_of text) 0 text pages))
 
 pub spelled_pages_read : (text : List ℕ) (pages : List Page) → SpellsPages text pages → pages_in text ≡ Ok pages
 unfolding pages_from
-spelled_pages_read text pages s =
-    read_on text [] pages 0 s.spelled (omega (arith, s.most)) ∙ ap (λ (lines : List (List ℕ)). behind pages (pages_from (0 + length pages + 1) lines)) none-left ∙ ap (λ (l : List Page). Ok l) (append-nil pages)
+spelled_pages_read text pages s = search (rules, (read_on text [] pages 0 s.spelled), (behind pages), none-left, (append-nil pages))
 
 pub fault_spelled : (text : List ℕ) (fault : ListFault) → pages_in text ≡ Err fault → IsListFault text fault
-fault_spelled text fault is =
-    let all = fault_from (lines_of text) 0 text fault (omega arith) refl is in
-    let one = subst (λ n. IsFaultOf n all.line fault) (from_zero (length all.pages)) all.is in
-    record { pages = all.pages; rest = all.rest; before = all.before; line = all.line; behind = all.behind; first = all.first; number = one.number; kind = one.kind }
+fault_spelled text fault is = search (rules, (fault_from (lines_of text) 0 text fault), from_zero, behind)
 
 pub spelled_fault_read : (text : List ℕ) (fault : ListFault) → IsListFault text fault → pages_in text ≡ Err fault
 unfolding pages_from
 spelled_fault_read text fault f =
-    let few : length f.pages ≤ 10000 = most (length f.pages) f.line fault.kind f.kind in
-    let failed = ap (λ n. numbered_page (n + 1) f.line) (from_zero (length f.pages)) ∙ fault_read (length f.pages) f.line fault f.number f.kind in
-    read_on text f.rest f.pages 0 f.before (omega (arith, few))
-    ∙ ap (λ (lines : List (List ℕ)). behind f.pages (pages_from (0 + length f.pages + 1) lines)) (lines_at f.rest f.line f.behind f.first)
-    ∙ rw failed refl
-  where
-    most : (count : ℕ) (line : List ℕ) (kind : ListKind) → IsFaultBehind count line kind → count ≤ 10000
-    most count line kind (inl last) = omega (arith, last.0)
-    most count line kind (inr less) = omega (arith, less.0)
+    search (rules, (from_zero (length f.pages)), (fault_read (length f.pages) f.line fault f.number f.kind), (read_on text f.rest f.pages 0 f.before), (behind f.pages), (lines_at f.rest f.line f.behind f.first))
 
 -- where the first line is that of a page, a fault is in a line behind it
 pub later_fault : (text : List ℕ) (fault : ListFault) → IsListFault text fault → IsOk (numbered_page 1 (first_line text).0) → 1 < fault.line
@@ -226,22 +205,13 @@ ok_or_err (Ok pages) = inl (pages, refl)
 ok_or_err (Err fault) = inr (fault, refl)
 
 pub either : (text : List ℕ) → Spelled SpellsPages text ⊎ Spelled IsListFault text
-either text = elim (ok_or_err (pages_in text)) [
-  | inl read ↦ inl (read.0, pages_spelled text read.0 read.1)
-  | inr failed ↦ inr (failed.0, fault_spelled text failed.0 failed.1)
-]
+either text = search (rules, (ok_or_err (pages_in text)), (pages_spelled text), (fault_spelled text))
 
 pub not_both : (text : List ℕ) (pages : List Page) (fault : ListFault) → SpellsPages text pages → IsListFault text fault → ⊥
-not_both text pages fault s f = no_read (sym (spelled_pages_read text pages s) ∙ spelled_fault_read text fault f)
-  where
-    no_read : ◌≡◌ {A = Read} (Ok pages) (Err fault) → ⊥
-    no_read e = cc
+not_both text pages fault s f = search (rules, (spelled_pages_read text pages s), (spelled_fault_read text fault f))
 
 pub one_page_list : (text : List ℕ) (one other : List Page) → SpellsPages text one → SpellsPages text other → one ≡ other
 one_page_list text one other s t = same_pages one other (sym (spelled_pages_read text one s) ∙ spelled_pages_read text other t)
 
 pub one_fault : (text : List ℕ) (one other : ListFault) → IsListFault text one → IsListFault text other → one ≡ other
-one_fault text one other f g = same_err one other (sym (spelled_fault_read text one f) ∙ spelled_fault_read text other g)
-  where
-    same_err : (one other : ListFault) → ◌≡◌ {A = Read} (Err one) (Err other) → one ≡ other
-    same_err one other e = cc
+one_fault text one other f g = search (rules, (spelled_fault_read text one f), (spelled_fault_read text other g))

@@ -1,7 +1,6 @@
 -- Lines that are printed spell their pages.
 use Rattle.std.proofs.Common.{◌≡◌, ℕ, zero, suc, ◌+◌, ◌-◌, ◌*◌, ◌≤◌, true, ◌==◌, List, [], ◌∷◌, ◌++◌, length, length-drop, length-take-le, take, drop, map, replicate, take-append-drop, Option, Some, None, All, refl, ap, sym, subst, ◌∙◌, inl, inr, append_assoc, eqb-true, ne_eqb, arith, rules}
 use Rattle.std.specs.Option.{ForSome}
-use Rattle.std.specs.Prelude.{nat_abs}
 use Rattle.std.specs.List.{flat_map, join_with_byte, prefix_len, list_all}
 use Rattle.std.proofs.lemmas.Bool.{agree_below_at, cases_Bool, and_parts}
 use Rattle.std.proofs.lemmas.List.{take-map, drop-map, take_all, length-map, replicate-append-replicate}
@@ -10,7 +9,7 @@ use Rattle.std.proofs.lemmas.List.Elements.{All-nil, All-cons, All-head, All-tai
 use Rattle.std.proofs.lemmas.List.Sums.{prefix_len-le-length}
 use Rattle.fumen_digits.specs.declared.dialect.Dialect.{Dialect}
 use Rattle.srs.specs.declared.placement.Placement.{Placement}
-use Rattle.srs.specs.Cells.{Cell, pivot_of}
+use Rattle.srs.specs.Cells.{pivot_of}
 use Rattle.fumen_comment.specs.Escape.{HasUnits}
 use Rattle.fumen_comment.proofs.CallerLemmas.{escaped_marks, unescaped-escaped}
 use Rattle.fumen_pages.specs.declared.page.Page.{Page}
@@ -30,9 +29,7 @@ use Rattle.page_list.proofs.Marks.{HasMarks, marked_field, cells_marks, operatio
 rows_in-letters : (count : ℕ) (cells : List ℕ) → rows_in count (letters_of cells) ≡ map letters_of (rows_in count cells)
 unfolding rows_in
 rows_in-letters zero cells = refl
-rows_in-letters (suc count) cells =
-    ap (λ (l : List ℕ). l ∷ rows_in count (drop 10 (letters_of cells))) (take-map colour_letter 10 cells) ∙ ap (λ (l : List ℕ). letters_of (take 10 cells) ∷ rows_in count l) (drop-map colour_letter 10 cells)
-    ∙ ap (λ (l : List (List ℕ)). letters_of (take 10 cells) ∷ l) (rows_in-letters count (drop 10 cells))
+rows_in-letters (suc count) cells = search (rules, (take-map colour_letter 10 cells), (drop-map colour_letter 10 cells), (rows_in-letters count (drop 10 cells)))
 
 are_rows : (count : ℕ) (cells : List ℕ) → 10 * count ≤ length cells → All IsColour cells → All IsPageRow (rows_in count cells)
 unfolding rows_in
@@ -50,9 +47,7 @@ blank_row : (row : List ℕ) → All IsColour row → is_blank (letters_of row) 
 unfolding is_blank
 blank_row [] small blank = refl
 blank_row (colour ∷ row) small blank =
-    let both = and_parts (colour_letter colour == 95) (list_all (λ letter. letter == 95) (letters_of row)) blank in
-    let empty : colour ≡ 0 = eqb-true colour 0 (sym (no_colour colour (All-head IsColour colour row small)) ∙ both.0) in
-    ap (λ c. c ∷ row) empty ∙ ap (λ (l : List ℕ). 0 ∷ l) (blank_row row (All-tail IsColour colour row small) both.1)
+    search (rules, (and_parts (colour_letter colour == 95) (list_all (λ letter. letter == 95) (letters_of row)) blank), (eqb-true colour 0), (no_colour colour (All-head IsColour colour row small)), (blank_row row (All-tail IsColour colour row small)))
 
 ten_zeros : (row : List ℕ) → IsPageRow row → is_blank (letters_of row) ≡ true → row ≡ replicate 10 0
 ten_zeros row is blank = blank_row row is.colours blank ∙ ap (λ n. replicate n 0) is.size
@@ -92,12 +87,7 @@ garbage_letters cells size =
 parted : (rows : List (List ℕ)) (garbage : List ℕ) → All IsPageRow rows → length rows ≡ 23
     → flat rows ++ garbage ≡ replicate (230 - 10 * length (drop (blank_count rows) rows)) 0 ++ (flat (drop (blank_count rows) rows) ++ garbage)
 parted rows garbage each size =
-    let blank = blank_count rows in
-    let shown = drop blank rows in
-    let most = prefix_len-le-length is_blank (map letters_of rows) in
-    let count : 10 * blank ≡ 230 - 10 * length shown = omega (arith, most, size, length-map rows letters_of, length-drop blank rows) in
-    let front : flat rows ≡ flat (take blank rows) ++ flat shown = ap flat (sym (take-append-drop blank rows)) ∙ flat_map-append (λ row. row) (take blank rows) shown in
-    ap (λ (l : List ℕ). l ++ garbage) (front ∙ ap (λ (l : List ℕ). l ++ flat shown) (blank_front rows each ∙ ap (λ n. replicate n 0) count)) ∙ append_assoc (replicate (230 - 10 * length shown) 0) (flat shown) garbage
+    search (rules, (prefix_len-le-length is_blank (map letters_of rows)), (length-map rows letters_of), (length-drop (blank_count rows) rows), (take-append-drop (blank_count rows) rows), (flat_map-append (λ row. row) (take (blank_count rows) rows) (drop (blank_count rows) rows)), (blank_front rows each), (append_assoc (replicate (230 - 10 * length (drop (blank_count rows) rows)) 0) (flat (drop (blank_count rows) rows)) garbage))
 
 printed_cells : (cells : List ℕ) → length cells ≡ 240 → All IsColour cells → SpellsLineCells (rows_form (letters_of cells)) cells
 unfolding rows_form
@@ -124,11 +114,7 @@ printed_cells cells size small =
 
 printed_operation : (dialect : Dialect) (operation : Option Placement) → ForSome operation (λ placement. is_inside_in dialect placement ≡ true) → SpellsLineOperation (operation_form operation) operation
 printed_operation dialect None inside = refl
-printed_operation dialect (Some p) inside =
-    let at = pivot_inside_in dialect p.piece p.rotation (pivot_of p) (inside p refl) in
-    let x : p.x ≡ at.x = ap (λ (c : Cell). nat_abs c.0) at.is in
-    let y : p.y ≡ at.y = ap (λ (c : Cell). nat_abs c.1) at.is in
-    record { written = refl; column = omega (arith, at.column, x); row = omega (arith, at.row, y, page_row_count-most dialect) }
+printed_operation dialect (Some p) inside = search (rules, (pivot_inside_in dialect p.piece p.rotation (pivot_of p) (inside p refl)), (page_row_count-most dialect))
 
 printed_comment : (comment : Option (List ℕ)) → HasUnits comment → SpellsLineComment (comment_form comment) comment
 printed_comment comment fits = search (rules, escaped_marks, unescaped-escaped)

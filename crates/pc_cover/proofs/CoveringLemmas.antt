@@ -80,26 +80,12 @@ module _ (problem : Problem) (old new : List (List Piece)) (before : List (List 
 range-next : (test : ℕ → Bool) (from len number : ℕ) → from ≤ number → number < from + len → test number ≡ true → ((k : ℕ) → from ≤ k → k < number → test k ≡ false)
     → filter test (range_with_len from len) ≡ number ∷ filter test (range_with_len (number + 1) (from + len - (number + 1)))
 range-next test from zero number above below passes none = absurd (omega arith)
-range-next test from (suc len) number above below passes none = elim (cases_eq from number) [
-  | inl here ↦
-      let left : len ≡ from + suc len - (number + 1) = omega (arith, here) in
-      filter-true test from (range_with_len (from + 1) len) (ap test here ∙ passes)
-      ∙ ap (λ n. n ∷ filter test (range_with_len (from + 1) len)) here
-      ∙ ap (λ n. number ∷ filter test (range_with_len (n + 1) len)) here
-      ∙ ap (λ n. number ∷ filter test (range_with_len (number + 1) n)) left
-  | inr later ↦
-      let beyond : from + 1 ≤ number = omega (arith, above, later) in
-      let left : from + 1 + len - (number + 1) ≡ from + suc len - (number + 1) = omega arith in
-      filter-false test from (range_with_len (from + 1) len) (none from (omega arith) (omega (arith, beyond)))
-      ∙ range-next test (from + 1) len number beyond (omega (arith, below)) passes (λ k low high. none k (omega (arith, low)) high)
-      ∙ ap (λ n. number ∷ filter test (range_with_len (number + 1) n)) left
-]
+range-next test from (suc len) number above below passes none =
+    search (rules, (cases_eq from number), (filter-true test from (range_with_len (from + 1) len)), (filter-false test from (range_with_len (from + 1) len)), (range-next test (from + 1) len number))
 
 range-none : (test : ℕ → Bool) (from len : ℕ) → ((k : ℕ) → from ≤ k → k < from + len → test k ≡ false) → filter test (range_with_len from len) ≡ []
 range-none test from zero none = refl
-range-none test from (suc len) none =
-    filter-false test from (range_with_len (from + 1) len) (none from (omega arith) (omega arith))
-    ∙ range-none test (from + 1) len (λ k low high. none k (omega (arith, low)) (omega (arith, high)))
+range-none test from (suc len) none = search (rules, (filter-false test from (range_with_len (from + 1) len)), (range-none test (from + 1) len))
 
 -- ---- the numbers of the queues that permit a list
 
@@ -110,29 +96,15 @@ module _ (decides : (hold : Hold) (queue : List Piece) (held : Option Piece) (pi
 
   one-permitted : (number : ℕ) → number < length all → permits_one problem lists number ≡ true → IsPermitted problem lists number
   unfolding permits_one
-  one-permitted number within passes =
-      let queue = get_or all number [] in
-      let found = some_passes (permits problem.hold queue problem.held) lists passes in
-      record {
-        queue = queue;
-        there = slice_get-get_or all number [] within;
-        kinds = found.0;
-        listed = found.1;
-        permitted = (decides problem.hold queue problem.held found.0).0 found.2;
-      }
+  one-permitted number within passes = search (rules, (slice_get-get_or all number [] within), (some_passes (permits problem.hold (get_or all number []) problem.held)))
 
   permitted-one : (number : ℕ) → IsPermitted problem lists number → permits_one problem lists number ≡ true
   unfolding permits_one
   permitted-one number permitted =
-      let same : permitted.queue ≡ get_or all number [] = sym (get_or_from_slice_get all number permitted.queue [] permitted.there) in
-      any_passes (permits problem.hold (get_or all number []) problem.held) lists permitted.kinds permitted.listed
-      (subst (λ q. permits problem.hold q problem.held permitted.kinds ≡ true) same ((decides problem.hold permitted.queue problem.held permitted.kinds).1 permitted.permitted))
+      search (rules, (get_or_from_slice_get all number permitted.queue [] permitted.there), (any_passes (permits problem.hold (get_or all number []) problem.held)))
 
   not-one : (number : ℕ) → number < length all → (IsPermitted problem lists number → ⊥) → permits_one problem lists number ≡ false
-  not-one number within none = elim (cases_Bool (permits_one problem lists number)) [
-    | inl passes ↦ absurd (none (one-permitted number within passes))
-    | inr fails ↦ fails
-  ]
+  not-one number within none = search (rules, cases_Bool, (one-permitted number within))
 
   pub permitted-within : (number : ℕ) → IsPermitted problem lists number → number < length all
   permitted-within number permitted = slice_get_within all number permitted.queue permitted.there
@@ -209,8 +181,4 @@ size-more before sequence = omega (arith, sum_by-append length before (sequence 
 -- the first sequences have no more placements than all
 pub size-front : (sequences : List (ArrayVec Placement)) (i : ℕ) → sum_by length (map listed_placements (take i sequences)) ≤ sum_by length (map listed_placements sequences)
 size-front sequences i =
-    omega (
-      arith,
-      ap (sum_by length) (sym (map-append listed_placements (take i sequences) (drop i sequences)) ∙ ap (map listed_placements) (take-append-drop i sequences)),
-      sum_by-append length (map listed_placements (take i sequences)) (map listed_placements (drop i sequences)),
-    )
+    search (rules, (map-append listed_placements (take i sequences) (drop i sequences)), (take-append-drop i sequences), (sum_by-append length (map listed_placements (take i sequences)) (map listed_placements (drop i sequences))))

@@ -1,5 +1,5 @@
 -- Lines that are read one after the other.
-use Rattle.std.proofs.Common.{◌≡◌, ℕ, ◌+◌, ◌<◌, ◌≤◌, true, false, List, [], ◌∷◌, ◌++◌, length, Ok, Err, refl, sym, ap, ◌∙◌, arith, append_assoc, append-nil, length-append, rules}
+use Rattle.std.proofs.Common.{◌≡◌, ℕ, ◌+◌, ◌<◌, ◌≤◌, true, false, List, [], ◌∷◌, ◌++◌, length, Ok, Err, refl, ap, ◌∙◌, arith, append_assoc, append-nil, length-append, rules}
 use Rattle.pc_outside.specs.declared.answers.Refused.{Refused}
 use Rattle.pc_outside.specs.declared.answers.Refused.TheVariants as refused
 use Rattle.srs.specs.declared.placement.Placement.{Placement}
@@ -58,15 +58,10 @@ module _ (needed : ℕ) (text : List ℕ) (so_far : List (List Placement)) (numb
   split = lines-more rest some ∙ ap (λ (l : List ℕ × List ℕ). l.0 ∷ lines_of l.1) cut
 
   pub reading-goes_on : (after : List (List Placement)) → ReadsLine needed (number + 1) line so_far after → length behind < length rest → Reading needed text after (number + 1) behind
-  reading-goes_on after goes shorter = record {
-    whole =
-        sym (goes.each (lines_of behind)) ∙ ap (λ l. behind_front so_far (given_from needed (number + 1) (length so_far) l)) (sym split) ∙ reading.whole;
-    short = omega (arith, reading.short, shorter);
-  }
+  reading-goes_on after goes shorter = search (rules, (goes.each (lines_of behind)), split)
 
   pub reading-stops : (fault : CoverFault) → RefusesLine needed (number + 1) line so_far (refused.Fault fault) → given_in needed text ≡ Err fault
-  reading-stops fault stops =
-      sym reading.whole ∙ ap (λ l. behind_front so_far (given_from needed (number + 1) (length so_far) l)) split ∙ stops (lines_of behind)
+  reading-stops fault stops = search (rules, split)
 
   pub reading-refused : (r : Refused CoverFault) → RefusesLine needed (number + 1) line so_far r → IsRefusal (λ fault. fault) r (given_in needed text)
   reading-refused (refused.Fault fault) stops = reading-stops fault stops

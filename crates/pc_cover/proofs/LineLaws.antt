@@ -86,12 +86,8 @@ numbered-ok number read sequence is = search rules
 
 sequence-is : (needed number count : ℕ) (line : List ℕ) (sequence : List Placement) → numbered_sequence needed number count line ≡ Ok sequence → (count < 100000) × Spells needed line sequence
 unfolding numbered_sequence
-sequence-is needed number count line sequence is = elim (cases_Bool (nat_lt count 100000)) [
-  | inl few ↦ (ltb-true count 100000 few, read_is_spelled needed line sequence (numbered-ok number (sequence_in needed line) sequence (rw few at is)))
-  | inr past ↦ no_sequence (rw past at is)
-] where
-  no_sequence : {fault : CoverFault} → ◌≡◌ {A = Result (List Placement) CoverFault} (Err fault) (Ok sequence) → (count < 100000) × Spells needed line sequence
-  no_sequence e = cc
+sequence-is needed number count line sequence is =
+    search (rules, (cases_Bool (nat_lt count 100000)), (ltb-true count 100000), (read_is_spelled needed line sequence), (numbered-ok number (sequence_in needed line) sequence))
 
 is-sequence : (needed number count : ℕ) (line : List ℕ) (sequence : List Placement) → count < 100000 → Spells needed line sequence → numbered_sequence needed number count line ≡ Ok sequence
 unfolding numbered_sequence
@@ -166,8 +162,7 @@ spelled-read needed [] number count (sequence ∷ sequences) spelled most = elim
 spelled-read needed (line ∷ lines) number count sequences (passed tail spelled) most =
     given-passed needed number count line lines (is-tail line tail) ∙ spelled-read needed lines (number + 1) count sequences spelled most
 spelled-read needed (line ∷ lines) number count (sequence ∷ sequences) (more other one spelled) most =
-    given-taken needed number count line lines sequence (no-tail line other) (is-sequence needed number count line sequence (omega (arith, most)) one)
-    ∙ ap (λ (r : Given). r >>= (λ others. Ok (sequence ∷ others))) (spelled-read needed lines (number + 1) (count + 1) sequences spelled (omega (arith, most)))
+    search (rules, (given-taken needed number count line lines sequence (no-tail line other)), (is-sequence needed number count line sequence), (spelled-read needed lines (number + 1) (count + 1) sequences spelled))
 
 -- a fault that lines were read with
 record HasFault (needed number count : ℕ) (lines : List (List ℕ)) (fault : CoverFault) : Type 0 where
@@ -248,15 +243,9 @@ fault-read : (needed : ℕ) (before : List (List ℕ)) (number count : ℕ) (seq
     → (IsTail line → ⊥) → IsFaultOfLine needed (count + length sequences) line kind → given_from needed number count (before ++ line ∷ behind) ≡ Err (fault_in_line (number + length before) kind)
 fault-read needed [] number count (sequence ∷ sequences) line behind kind spelled most other is = elim spelled [ ]
 fault-read needed [] number count [] line behind kind none most other is =
-    let place : number ≡ number + 0 = omega arith in
-    let size : count + 0 ≡ count = omega arith in
-    given-refused needed number count line behind (fault_in_line number kind) (no-tail line other) (is-fault needed number count number line kind (subst (λ m. IsFaultOfLine needed m line kind) size is))
-    ∙ ap (λ (n : ℕ). Err (fault_in_line n kind)) place
+    search (rules, (given-refused needed number count line behind (fault_in_line number kind) (no-tail line other)), (is-fault needed number count number line kind))
 fault-read needed (first ∷ before) number count sequences line behind kind (passed tail spelled) most other is =
-    let place : number + 1 + length before ≡ number + suc (length before) = omega arith in
-    given-passed needed number count first (before ++ line ∷ behind) (is-tail first tail)
-    ∙ fault-read needed before (number + 1) count sequences line behind kind spelled most other is
-    ∙ ap (λ (n : ℕ). Err (fault_in_line n kind)) place
+    search (rules, (given-passed needed number count first (before ++ line ∷ behind) (is-tail first tail)), (fault-read needed before (number + 1) count sequences line behind kind spelled most other is))
 fault-read needed (first ∷ before) number count (sequence ∷ sequences) line behind kind (more taken one spelled) most other is =
     let place : number + 1 + length before ≡ number + suc (length before) = omega arith in
     let size : count + suc (length sequences) ≡ count + 1 + length sequences = omega arith in

@@ -1,5 +1,5 @@
 -- Fields that lie on a board, and how the number of cells grows with the field.
-use Rattle.std.proofs.Common.{◌≡◌, ℕ, zero, suc, ◌<◌, ◌≤◌, Bool, true, false, cond, count_by, List, [], ◌∷◌, refl, sym, ap, ◌∙◌, inl, inr, arith, ◌⊎◌, rules}
+use Rattle.std.proofs.Common.{◌≡◌, ℕ, zero, suc, ◌<◌, ◌≤◌, Bool, true, false, cond, count_by, List, [], ◌∷◌, refl, ap, ◌∙◌, arith, ◌⊎◌, rules}
 use Rattle.std.proofs.Math.Path.{fun_ext}
 use Rattle.std.specs.Bool.{beq}
 use Rattle.std.specs.List.{list_all}
@@ -31,10 +31,7 @@ module _ (p q : ℕ → Bool) (more : (k : ℕ) → p k ≡ true → q k ≡ tru
   -- more pass the weaker test
   count-more : (ks : List ℕ) → count_by p ks ≤ count_by q ks
   count-more [] = omega arith
-  count-more (k ∷ ks) = elim (cases_Bool (p k)) [
-    | inl passes ↦ omega (arith, sum_by-cons (λ x. cond (p x) 1 0) k ks, sum_by-cons (λ x. cond (q x) 1 0) k ks, ap count_of passes, ap count_of (more k passes), count-more ks)
-    | inr fails ↦ omega (arith, sum_by-cons (λ x. cond (p x) 1 0) k ks, sum_by-cons (λ x. cond (q x) 1 0) k ks, ap count_of fails, count-more ks)
-  ]
+  count-more (k ∷ ks) = search (rules, (cases_Bool (p k)), (sum_by-cons (λ x. cond (p x) 1 0) k ks), (sum_by-cons (λ x. cond (q x) 1 0) k ks), (count-more ks))
 
   both_false : (k : ℕ) → p k ≡ false → q k ≡ false → beq (p k) (q k) ≡ true
   both_false k e f = ap (λ b. beq b (q k)) e ∙ ap (beq false) f
@@ -45,14 +42,8 @@ module _ (p q : ℕ → Bool) (more : (k : ℕ) → p k ≡ true → q k ≡ tru
   -- where no more pass, the tests agree
   count-same : (ks : List ℕ) → count_by q ks ≤ count_by p ks → list_all (λ k. beq (p k) (q k)) ks ≡ true
   count-same [] few = refl
-  count-same (k ∷ ks) few = elim (cases_Bool (p k)) [
-    | inl passes ↦ and_from _ _ (both_true k passes (more k passes))
-        (count-same ks (omega (arith, few, sum_by-cons (λ x. cond (p x) 1 0) k ks, sum_by-cons (λ x. cond (q x) 1 0) k ks, ap count_of passes, ap count_of (more k passes))))
-    | inr fails ↦ elim (cases_Bool (q k)) [
-      | inl other ↦ absurd (omega (arith, few, sum_by-cons (λ x. cond (p x) 1 0) k ks, sum_by-cons (λ x. cond (q x) 1 0) k ks, ap count_of fails, ap count_of other, count-more ks))
-      | inr none ↦ search (rules, and_from, sum_by-cons, (count-same ks))
-    ]
-  ]
+  count-same (k ∷ ks) few =
+      search (rules, (cases_Bool (p k)), and_from, (both_true k), (count-same ks), (sum_by-cons (λ x. cond (p x) 1 0) k ks), (sum_by-cons (λ x. cond (q x) 1 0) k ks), (cases_Bool (q k)), (count-more ks), sum_by-cons)
 
 below_or_top : (y n : ℕ) → y < suc n → (y < n) ⊎ (y ≡ n)
 below_or_top y n row = search (rules, cases_lt)
@@ -78,13 +69,8 @@ module _ (F G : Field) (within : IsWithin F G) where
   cells-same : (n : ℕ) → cell_count G n ≤ cell_count F n → (x y : ℕ) → x < 10 → y < n → F x y ≡ G x y
   unfolding cell_count
   cells-same zero few x y column row = absurd (omega arith)
-  cells-same (suc n) few x y column row = elim (below_or_top y n row) [
-    | inl below ↦ cells-same n (omega (arith, few, row_count-more n)) x y column below
-    | inr top ↦ ap (F x) top ∙ row-same n (omega (arith, few, cell_count-more n)) x column ∙ ap (G x) (sym top)
-  ]
+  cells-same (suc n) few x y column row = search (rules, (below_or_top y n row), (cells-same n), (row_count-more n), (row-same n), (cell_count-more n))
 
   -- and where it has no more, they are the same
   pub fields-same : (n : ℕ) → LiesWithin G n → cell_count G n ≤ cell_count F n → F ≡ G
-  fields-same n lies few = within_both F G within (record {
-    has = λ x y filled. let inside : (x < 10) × (y < n) = lies.inside x y filled in cells-same n few x y inside.0 inside.1 ∙ filled;
-  })
+  fields-same n lies few = search (rules, (within_both F G within), lies.inside, (cells-same n few))

@@ -58,8 +58,7 @@ module _ (places : LowPlaces) where
 -- where all words are empty, nothing is held
 pub low_none : (places : LowPlaces) → ((w : ℕ) → w < 8 → get_or places.words w 0 ≡ 0) → (q : Placement) → IsTrue (holds places q) → ⊥
 low_none places empty q held =
-    let cell = cell-parts places.words (rotation_place q.rotation) q.x q.y (low_holds-parts places q held).1 in
-    both_ways _ (has_bit-zero (bit_of q.x q.y)) (ap (λ n. has_bit n (bit_of q.x q.y)) (sym (empty (word_of (rotation_place q.rotation) q.y) (omega (arith, rotation_place-small q.rotation, cell.1)))) ∙ cell.2)
+    search (rules, both_ways, (has_bit-zero (bit_of q.x q.y)), (rotation_place-small q.rotation), (cell-parts places.words (rotation_place q.rotation) q.x q.y (low_holds-parts places q held).1))
 
 -- the placement of a bit
 pub record IsAt (piece : Piece) (at bit : ℕ) (s : Placement) : Type 0 where
@@ -76,12 +75,7 @@ same_place piece at bit s q within is kind narrow low word place = search (rules
 module _ (places : LowPlaces) (at bit : ℕ) (small : at < 8) (within : bit < 64) (before : (w : ℕ) → w < at → get_or places.words w 0 ≡ 0)
     (lowest : IsLowestBit (get_or places.words at 0) bit) (s : Placement) (is : IsAt (piece_of places) at bit s) where
   first_held : IsTrue (holds places s)
-  first_held =
-      let word : at ≡ word_of (rotation_place s.rotation) s.y = omega (arith, is.rotation, is.row) in
-      let place : bit ≡ bit_of s.x s.y = omega (arith, is.row, is.column) in
-      low_holds-from places s is.kind
-      (cell-from places.words (rotation_place s.rotation) s.x s.y (omega (arith, is.column)) (omega (arith, is.row))
-      ((λ i. has_bit (get_or places.words (sym word i) 0) (sym place i)) ∙ lowest.has))
+  first_held = search (rules, (low_holds-from places), (cell-from places.words))
 
   comes_later : (q : Placement) → IsTrue (holds places q) → state_number s ≤ state_number q
   comes_later q held =
@@ -148,11 +142,7 @@ module _ (places : LowPlaces) (at bit : ℕ) (small : at < 8) (within : bit < 64
             (bit_in w k (omega (arith, cell.0)) ∙ and_from _ _ cell.2 (other (cases_Bool ((w == at) && (k == bit))))))
           where
             other : (((w == at) && (k == bit)) ≡ true) ⊎ (((w == at) && (k == bit)) ≡ false) → not ((w == at) && (k == bit)) ≡ true
-            other (inl same) =
-                let parts = low_holds-parts places q held in
-                let cell = cell-parts places.words (rotation_place q.rotation) q.x q.y parts.1 in
-                let both = and_parts (w == at) (k == bit) same in
-                absurd (apart (ap (λ (t : Placement). Some t) (same_place (piece_of places) at bit s q within is parts.0 cell.0 cell.1 (eqb-true w at both.0) (eqb-true k bit both.1))))
+            other (inl same) = search (rules, (same_place (piece_of places)), (low_holds-parts places q), (cell-parts places.words (rotation_place q.rotation) q.x q.y), (eqb-true w), (and_parts (w == at) (k == bit)), (eqb-true k bit))
             other (inr none) = not_from_false _ none
 
 -- words that have lost the bits of others
@@ -169,42 +159,16 @@ CutFrom S r row limit word = (k : ℕ) → k < 64 → has_bit word k ≡ (S r (k
 pub cut_cells : {N : ℕ} (S : States) (words : List ℕ) (limit : ℕ) (r : Rotation) → LiesWithin (S r) N → limit ≤ 8 →
     CutFrom S r 0 limit (get_or words (2 * rotation_place r) 0) → CutFrom S r 4 limit (get_or words (2 * rotation_place r + 1) 0) → (x y : ℕ) →
     cells_of_words words (rotation_place r) x y ≡ (S r x y && nat_lt y limit)
-cut_cells S words limit r lies low first second x y = same_from_both _ _ there back
-  where
-    at : x < 16 → y < 8 → has_bit (get_or words (word_of (rotation_place r) y) 0) (bit_of x y) ≡ (S r x y && nat_lt y limit)
-    at column row = search (rules, cases_lt, same_from_both, lt-ltb, ltb-true)
-
-    there : cells_of_words words (rotation_place r) x y ≡ true → (S r x y && nat_lt y limit) ≡ true
-    there has = let cell = cell-parts words (rotation_place r) x y has in sym (at cell.0 cell.1) ∙ cell.2
-
-    back : (S r x y && nat_lt y limit) ≡ true → cells_of_words words (rotation_place r) x y ≡ true
-    back has =
-        let parts = and_parts (S r x y) (nat_lt y limit) has in
-        let place = lies.inside x y parts.0 in
-        let column : x < 16 = omega (arith, place.0) in
-        let row : y < 8 = omega (arith, ltb-true y limit parts.1, low) in
-        cell-from words (rotation_place r) x y column row (at column row ∙ has)
+cut_cells S words limit r lies low first second x y =
+    search (rules, same_from_both, (nat_lt y limit), cases_lt, lt-ltb, ltb-true, (cell-parts words (rotation_place r) x y), (lies.inside x y), (and_parts (S r x y) (nat_lt y limit)), (ltb-true y limit), (cell-from words (rotation_place r) x y))
 
 -- the states that lie so low
 pub low_filled : (new : LowPlaces) (piece : Piece) (S : States) (rows : ℕ) → piece_of new ≡ piece →
     ((r : Rotation) (x y : ℕ) → cells_of_words new.words (rotation_place r) x y ≡ (S r x y && nat_lt y (rows - rows_over_pivot piece r))) → (q : Placement) →
     IsTrue (holds new q) ↔ ((q.piece ≡ piece) × (has_state S q ≡ true) × IsTrue (is_below rows q))
 unfolding has_state
-low_filled new piece S rows kind fills q = (there, back)
-  where
-    same : q.piece ≡ piece → nat_lt q.y (rows - rows_over_pivot piece q.rotation) ≡ nat_lt q.y (rows - rows_over_pivot q.piece q.rotation)
-    same k = ap (λ (p : Piece). nat_lt q.y (rows - rows_over_pivot p q.rotation)) (sym k)
-
-    there : IsTrue (holds new q) → (q.piece ≡ piece) × (has_state S q ≡ true) × IsTrue (is_below rows q)
-    there held =
-        let parts = low_holds-parts new q held in
-        let k = parts.0 ∙ kind in
-        let both = and_parts (S q.rotation q.x q.y) _ (sym (fills q.rotation q.x q.y) ∙ parts.1) in
-        (k, both.0, (below_by_pivot rows q).0 (sym (same k) ∙ both.1))
-
-    back : (q.piece ≡ piece) × (has_state S q ≡ true) × IsTrue (is_below rows q) → IsTrue (holds new q)
-    back (k, has, low) =
-        low_holds-from new q (k ∙ sym kind) (fills q.rotation q.x q.y ∙ and_from _ _ has (same k ∙ (below_by_pivot rows q).1 low))
+low_filled new piece S rows kind fills q =
+    search (rules, (nat_lt q.y (rows - rows_over_pivot piece q.rotation)), (nat_lt q.y (rows - rows_over_pivot q.piece q.rotation)), (nat_lt q.y), (low_holds-parts new q), (and_parts (S q.rotation q.x q.y)), (below_by_pivot rows q), (low_holds-from new q), and_from)
 
 -- eight words that have the states that lie so low
 module _ {N : ℕ} (new : LowPlaces) (piece : Piece) (S : States) (rows : ℕ) (left : List ℕ) (low : rows ≤ 8) (lies : (r : Rotation) → LiesWithin (S r) N)
@@ -236,18 +200,15 @@ low_places_held P piece rows places S filled are q = search rules
 -- so does a set that has the states with the pivot below a row M that is no lower
 pub held_under : (P : Placement → Type 0) (piece : Piece) (M rows : ℕ) (S : States) → rows ≤ M → HasExactly (IsUnder M P) piece S →
     (q : Placement) → q.piece ≡ piece → IsTrue (is_below rows q) → (has_state S q ≡ true) ↔ P q
-held_under P piece M rows S few are q kind low = (
-  λ held. ((are.exact q kind).0 held).is,
-  λ is. (are.exact q kind).1 (record { below = omega (arith, few, ltb-true q.y (rows - rows_over_pivot q.piece q.rotation) ((below_by_pivot rows q).1 low)); is = is }),
-)
+held_under P piece M rows S few are q kind low =
+    search (rules, (are.exact q kind), few, (ltb-true q.y (rows - rows_over_pivot q.piece q.rotation) ((below_by_pivot rows q).1 low)))
 
 -- none of two is true
 
 -- where no word has a bit, nothing is held
 pub held_none : (places : LowPlaces) → ((w k : ℕ) → w < 8 → k < 64 → has_bit (get_or places.words w 0) k ≡ false) → (q : Placement) → holds places q ≡ false
-held_none places none q = false_from_ne_true _ (λ held.
-    let cell = cell-parts places.words (rotation_place q.rotation) q.x q.y (low_holds-parts places q held).1 in
-    both_ways _ (none (word_of (rotation_place q.rotation) q.y) (bit_of q.x q.y) (omega (arith, rotation_place-small q.rotation, cell.1)) (omega (arith, cell.0))) cell.2)
+held_none places none q =
+    search (rules, false_from_ne_true, both_ways, (rotation_place-small q.rotation), (cell-parts places.words (rotation_place q.rotation) q.x q.y), (low_holds-parts places q))
 
 -- where nothing is held, no word has a bit
 pub no_bits : (places : LowPlaces) → ((q : Placement) → holds places q ≡ false) → (w k : ℕ) → w < 8 → k < 64 → has_bit (get_or places.words w 0) k ≡ false

@@ -32,10 +32,7 @@ module _ (numbers : Numbers) (from at word : ℕ) (is : IsWordFrom numbers from 
   in_word m after here has = search (rules, and_from, le-leb, has_number-in)
 
   pub none_more : word ≡ 0 → (m : ℕ) → from ≤ m → m < 64 * (at + 1) → has_number numbers m ≡ true → ⊥
-  none_more none m after within has = elim (cases_lt m (64 * at)) [
-    | inl old ↦ before m after old has
-    | inr new ↦ both_ways _ (has_bit-zero (m % 64)) (ap (λ w. has_bit w (m % 64)) (sym none) ∙ in_word m after (omega arith) has)
-  ]
+  none_more none m after within has = search (rules, (cases_lt m (64 * at)), both_ways, (has_bit-zero (m % 64)), (in_word m after))
 
   pub first_in : (bit : ℕ) → at < 24 → bit < 64 → has_bit word bit ≡ true → ((k : ℕ) → k < 64 → has_bit word k ≡ true → bit ≤ k) → IsFirstNumber numbers from (64 * at + bit)
   first_in bit small within has least =

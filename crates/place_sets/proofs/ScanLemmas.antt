@@ -85,8 +85,7 @@ next_of_all_by places bound result e is = subst (λ (bound : Option Placement). 
 pub next_above_by : (places : Places) (bound : Option Placement) (last : Placement) (n : ℕ) (result : Option Placement) → bound ≡ Some last → IfSome bound (λ q. q.piece ≡ piece_of places) → IsByte last → n ≡ state_number last + 1 → IsStateFrom (states_in places.numbers) places.piece n result → IsNextAbove placement_cmp (λ q. IsTrue (holds places q)) bound result
 unfolding piece_of
 next_above_by places bound last n result e kind byte number is =
-    subst (λ (bound : Option Placement). IsNextAbove placement_cmp (λ q. IsTrue (holds places q)) bound result) (sym e)
-    (next_above places last result byte (subst (λ (bound : Option Placement). IfSome bound (λ q. q.piece ≡ piece_of places)) e kind) (subst (λ n. IsStateFrom (states_in places.numbers) places.piece n result) number is))
+    search (rules, (next_above places last result byte (subst (λ (bound : Option Placement). IfSome bound (λ q. q.piece ≡ piece_of places)) e kind) (subst (λ n. IsStateFrom (states_in places.numbers) places.piece n result) number is)))
 
 -- what is held is of the piece
 pub holds-piece : (places : Places) (q : Placement) → IsTrue (holds places q) → q.piece ≡ piece_of places

@@ -55,13 +55,7 @@ module _ (old new : Places) (kind : new.piece ≡ old.piece) where
 
   -- nothing is taken out
   pub taken_none : ((m : ℕ) → m < 1536 → has_number new.numbers m ≡ (has_number old.numbers m && true)) → (q : Placement) → IsTrue (holds new q) ↔ (IsTrue (holds old q) × (None ≢ Some q))
-  taken_none taken q =
-      let few = rotation_place-small q.rotation in
-      let iff = held_where q true (λ column row. taken (number_of_state (rotation_place q.rotation) q.y q.x) (omega arith)) in
-      (λ held. ((iff.0 held).0, no_none), λ found. iff.1 (found.0, refl))
-    where
-      no_none : None ≢ Some q
-      no_none e = cc
+  taken_none taken q = search (rules, (held_where q true))
 
 -- a highest cell
 top_cell : List Cell → Cell
@@ -99,11 +93,4 @@ pub below_held : (old new : Places) (rows : ℕ) (left : List ℕ) → new.piece
     ((place y x : ℕ) → place < 4 → y < 24 → x < 16 → has_number new.numbers (number_of_state place y x) ≡ (has_number old.numbers (number_of_state place y x) && nat_lt y (get_or left place 0))) → (q : Placement) →
     IsTrue (holds new q) ↔ (IsTrue (holds old q) × IsTrue (is_below rows q))
 below_held old new rows left kind is keeps q =
-    let iff = held_where old new kind q (nat_lt q.y (get_or left (rotation_place q.rotation) 0)) (λ column row. keeps (rotation_place q.rotation) q.y q.x (rotation_place-small q.rotation) row column) in
-    let exact = below_by_pivot rows q in (
-      λ held. let parts = iff.0 held in let k = (holds-parts old q parts.0).0 in (parts.0, exact.0 (sym (same k) ∙ parts.1)),
-      λ found. let k = (holds-parts old q found.0).0 in iff.1 (found.0, same k ∙ exact.1 found.1),
-    )
-  where
-    same : q.piece ≡ old.piece → nat_lt q.y (get_or left (rotation_place q.rotation) 0) ≡ nat_lt q.y (rows - rows_over_pivot q.piece q.rotation)
-    same k = ap (nat_lt q.y) (is q.rotation ∙ ap (λ (p : Piece). rows - rows_over_pivot p q.rotation) (sym k))
+    search (rules, (held_where old new kind q (nat_lt q.y (get_or left (rotation_place q.rotation) 0)) (λ column row. keeps (rotation_place q.rotation) q.y q.x (rotation_place-small q.rotation) row column)), (below_by_pivot rows q), (holds-parts old q), (nat_lt q.y (get_or left (rotation_place q.rotation) 0)), (nat_lt q.y (rows - rows_over_pivot q.piece q.rotation)), (nat_lt q.y))

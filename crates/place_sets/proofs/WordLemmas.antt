@@ -56,10 +56,7 @@ one_less (suc bit) n lowest = search (rules, has_bit-suc, halved, less, same, (o
     halved = record { has = sym (has_bit-suc n bit) ∙ lowest.has; first = λ k has. let next = lowest.first (suc k) (has_bit-suc n k ∙ has) in omega (arith, next) }
 
     is_even : n % 2 ≡ 0
-    is_even = elim (cases_eq (n % 2) 0) [
-      | inl e ↦ e
-      | inr other ↦ absurd (let next = lowest.first 0 (true_from_bit n 0 (bit_at_lowest n ∙ omega (arith, other))) in omega (arith, next))
-    ]
+    is_even = search (rules, (cases_eq (n % 2) 0), (lowest.first 0), (true_from_bit n 0), (bit_at_lowest n))
 
     less : (n - 1) / 2 ≡ n / 2 - 1
     less = omega (arith, is_even)
@@ -69,18 +66,8 @@ one_less (suc bit) n lowest = search (rules, has_bit-suc, halved, less, same, (o
     same half (suc k) above = has_bit-suc (n - 1) k ∙ ap (λ m. has_bit m k) less ∙ half.same k (omega (arith, above)) ∙ sym (has_bit-suc n k)
 
 pub has_bit-without : (n bit k : ℕ) → IsLowestBit n bit → has_bit (bit_and n (n - 1)) k ≡ (has_bit n k && not (k == bit))
-has_bit-without n bit k lowest = has_bit-and n (n - 1) k ∙ elim (cases_eq k bit) [
-  | inl same ↦ search (rules, one_less, eq-eqb)
-  | inr other ↦ elim (cases_lt k bit) [
-    | inl below ↦ search (rules, none_below)
-    | inr above ↦
-        ap (λ b. has_bit n k && b) ((one_less bit n lowest).same k (omega (arith, other, above)))
-        ∙ and_self (has_bit n k) ∙ sym (and-true (has_bit n k)) ∙ ap (λ b. has_bit n k && not b) (sym (ne_eqb k bit other))
-  ]
-]
-  where
-    none_below : k < bit → has_bit n k ≡ false
-    none_below below = search (rules, cases_Bool)
+has_bit-without n bit k lowest =
+    search (rules, (has_bit-and n (n - 1) k), (cases_eq k bit), one_less, eq-eqb, (cases_lt k bit), (one_less bit n lowest), (and_self (has_bit n k)), (and-true (has_bit n k)), (ne_eqb k bit), cases_Bool)
 
 -- the lowest bits, so many of them
 pub has_bit-ones : (n count k : ℕ) → has_bit (bit_and n (2 ^ count - 1)) k ≡ (has_bit n k && nat_lt k count)
@@ -89,12 +76,7 @@ has_bit-ones n count k =
 
 -- a row moved up
 has_bit-raised : (n at k : ℕ) → k < 64 → has_bit (n * 2 ^ at % 2 ^ 64) k ≡ (nat_le at k && has_bit n (k - at))
-has_bit-raised n at k within =
-    has_bit-low (n * 2 ^ at) 64 k within
-    ∙ elim (cases_lt k at) [
-      | inl below ↦ has_bit-shifted_low n at k below ∙ ap (λ b. b && has_bit n (k - at)) (sym (lt-leb at k below))
-      | inr from ↦ has_bit-shifted_high n at k from ∙ ap (λ b. b && has_bit n (k - at)) (sym (le-leb at k from))
-    ]
+has_bit-raised n at k within = search (rules, (has_bit-low (n * 2 ^ at) 64 k within), (cases_lt k), (has_bit-shifted_low n), lt-leb, (has_bit-shifted_high n), le-leb)
 
 module _ (F : Field) (N y a b c d : ℕ) (lies : LiesWithin F N)
     (is_a : has_bit a ≡ (λ x. F x y)) (is_b : has_bit b ≡ (λ x. F x (y + 1))) (is_c : has_bit c ≡ (λ x. F x (y + 2))) (is_d : has_bit d ≡ (λ x. F x (y + 3))) where

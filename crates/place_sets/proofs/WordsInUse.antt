@@ -32,8 +32,7 @@ pub no_number_in_use : (numbers : Numbers) → NoWord numbers numbers.in_use →
 no_number_in_use numbers is = none_at_all numbers 24 (λ w small. empty_unless numbers w small (is.none w small)) (omega arith)
 
 pub first_in_use : (numbers : Numbers) (at bit word : ℕ) → IsFirstWord numbers numbers.in_use at → word ≡ get_or numbers.words at 0 → bit < 64 → IsLowestBit word bit → IsFirstNumber numbers 0 (64 * at + bit)
-first_in_use numbers at bit word is same within lowest =
-    first_of_all numbers at (none_before_first numbers at is) bit is.small within (ap (λ w. has_bit w bit) (sym same) ∙ lowest.has) (λ k small has. lowest.first k (ap (λ w. has_bit w k) same ∙ has))
+first_in_use numbers at bit word is same within lowest = search (rules, (first_of_all numbers), (none_before_first numbers), lowest.first)
 
 -- the lowest word that is left is looked at
 module _ (numbers : Numbers) (among left next at : ℕ) (lowest : IsLowestBit left at)

@@ -25,6 +25,7 @@ impl Places {
     ghost use Rattle.place_sets.specs.States.{has_state, states_of};
 
     /// The placements of a piece with these pivots.
+    #[tactic(auto, unfolding(crate::specs::Places::piece_of, crate::specs::Places::holds))]
     pub fn of_states(piece: Piece, states: &Pivots<24>) -> Places
         ensures piece { piece_of result ≡ piece }
         ensures held { (q : Placement) → holds result q

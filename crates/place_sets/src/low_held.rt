@@ -140,6 +140,7 @@ impl LowPlaces {
 
     /// Removes the least placement and returns it. `None` exactly if there is none.
     #[inline(always)]
+    #[tactic(auto, using(crate::proofs::LowPlaceLemmas::low_none), unfolding(crate::specs::LowPlaces::piece_of))]
     pub fn take_least(&mut self) -> Option<Placement>
         ensures piece { piece_of self.new ≡ piece_of self.old }
         ensures least { IsNextAbove placement_cmp (λ q. IsTrue (holds self.old q)) None result }

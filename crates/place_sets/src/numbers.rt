@@ -36,6 +36,7 @@ fn first_words(count: usize) -> u64
 
 /// How many words of each rotation have rows below the given ones.
 #[inline(always)]
+#[tactic(auto, using(crate::proofs::NumberLemmas::under_all))]
 fn words_below(rows: [u8; 4]) -> usize
     requires { length rows ≡ 4 }
     ensures few { result ≤ 6 }
@@ -99,6 +100,7 @@ impl Numbers {
 
     /// The least number in the words from `start` on. `None` exactly if they have none.
     #[inline(always)]
+    #[tactic(auto, using(crate::proofs::WordsInUse::none_from_word))]
     fn first_in_words(&self, start: u16) -> Option<u16>
         requires { start ≤ 24 }
         ensures { IsNumberFrom self.now (64 * start) result }

@@ -24,6 +24,7 @@ impl<const N: usize> Pivots<N> {
     ghost use Rattle.place_sets.specs.States.{states_of, states_with, no_states};
 
     /// The empty set of states.
+    #[tactic(auto, using(crate::proofs::StateSets::same_states), unfolding(crate::specs::States::states_of))]
     pub fn empty() -> Pivots<N>
         requires { IsTrue (is_lane_count N) }
         ensures { states_of result ≡ no_states }
@@ -52,6 +53,7 @@ impl<const N: usize> Pivots<N> {
 
     /// The same set with other pivots in one rotation.
     #[inline(always)]
+    #[tactic(auto, using(crate::proofs::StateSets::same_states, crate::proofs::StateSets::with_at), unfolding(crate::specs::States::states_of, crate::specs::States::states_with))]
     pub fn with(&self, rotation: Rotation, board: &LaneBoard<N>) -> Pivots<N>
         ensures { states_of result ≡ states_with (states_of self.now) rotation (field_of board.now) }
     {
@@ -76,6 +78,7 @@ impl<const N: usize> Pivots<N> {
     }
 
     /// A rotation in which the sets differ. `None` exactly if they are the same.
+    #[tactic(auto, using(std::proofs::lemmas::Bool::both_ways, crate::proofs::StateSets::same_states), unfolding(crate::specs::States::states_of))]
     pub fn difference(&self, other: &Pivots<N>) -> Option<Rotation>
         ensures { MatchOption result (states_of self.now ≡ states_of other.now)
             (λ r. states_of self.now r ≢ states_of other.now r) }

@@ -26,6 +26,7 @@ pub(crate) fn first_state(
 }
 
 /// The least number that a state at or after this rotation, row and column can have.
+#[tactic(auto, using(crate::proofs::PlaceNumbers::starts_high, crate::proofs::PlaceNumbers::starts_low))]
 fn number_from(first: u8, y: u8, x: u16) -> u16
     requires rotation { first < 4 }
     requires column { x ≤ 256 }

@@ -1,5 +1,5 @@
 -- How often a cell stands in a list of cells.
-use Rattle.std.proofs.Common.{◌≡◌, ℕ, ◌+◌, ◌≤◌, Bool, true, false, cond, ◌||◌, List, [], ◌∷◌, ◌++◌, map, refl, sym, ap, subst, ◌∙◌, inl, inr, arith, rules}
+use Rattle.std.proofs.Common.{◌≡◌, ℕ, ◌+◌, ◌≤◌, Bool, true, false, cond, List, [], ◌∷◌, ◌++◌, map, refl, sym, ap, ◌∙◌, inl, inr, arith, rules}
 use Rattle.std.specs.Prelude.{count_by}
 use Rattle.std.specs.List.{list_all}
 use Rattle.std.specs.Cmp.{both_ways}
@@ -23,9 +23,7 @@ count-append p xs ys = sum_by-append (λ x. cond (p x) 1 0) xs ys
 pub count-agree : {X : Type 0} (p q ok : X → Bool) (xs : List X) → list_all ok xs ≡ true → ((x : X) → ok x ≡ true → p x ≡ q x) → count_by p xs ≡ count_by q xs
 count-agree p q ok [] all agree = refl
 count-agree p q ok (x ∷ xs) all agree =
-    let parts = and_parts (ok x) (list_all ok xs) all in
-    let here : ◌≡◌ {A = ℕ} (cond (p x) 1 0) (cond (q x) 1 0) = ap (λ b. cond b 1 0) (agree x parts.0) in
-    omega (arith, sum_by-cons (λ x. cond (p x) 1 0) x xs, sum_by-cons (λ x. cond (q x) 1 0) x xs, here, count-agree p q ok xs parts.1 agree)
+    search (rules, (and_parts (ok x) (list_all ok xs) all), (sum_by-cons (λ x. cond (p x) 1 0) x xs), (sum_by-cons (λ x. cond (q x) 1 0) x xs), (count-agree p q ok xs (and_parts (ok x) (list_all ok xs) all).1 agree))
 
 -- none of them passes
 pub count-none : {X : Type 0} (p ok : X → Bool) (xs : List X) → list_all ok xs ≡ true → ((x : X) → ok x ≡ true → p x ≡ false) → count_by p xs ≡ 0
@@ -48,10 +46,8 @@ count_in-append xs ys cell = count-append (λ c. cell_eq c cell) xs ys
 pub count_in-some : (cells : List Cell) (cell : Cell) → is_among cells cell ≡ true → 1 ≤ count_in cells cell
 unfolding count_in is_among
 count_in-some [] cell has = absurd (false≢true has)
-count_in-some (c ∷ cs) cell has = elim (cases_Bool (cell_eq c cell)) [
-  | inl same ↦ omega (arith, count-yes (λ c. cell_eq c cell) c cs same)
-  | inr other ↦ omega (arith, count-no (λ c. cell_eq c cell) c cs other, count_in-some cs cell (subst (λ b. (b || is_among cs cell) ≡ true) other has))
-]
+count_in-some (c ∷ cs) cell has =
+    search (rules, (cases_Bool (cell_eq c cell)), (count-yes (λ c. cell_eq c cell) c cs), (count-no (λ c. cell_eq c cell) c cs), (count_in-some cs cell))
 
 pub count_in-none : (cells : List Cell) (cell : Cell) → is_among cells cell ≡ false → count_in cells cell ≡ 0
 unfolding count_in is_among
@@ -67,11 +63,7 @@ pub record Source (f : Cell → Cell) (cells : List Cell) (cell : Cell) : Type 0
 pub source_of : (f : Cell → Cell) (cells : List Cell) (cell : Cell) → is_among (map f cells) cell ≡ true → Source f cells cell
 unfolding is_among
 source_of f [] cell has = absurd (false≢true has)
-source_of f (c ∷ cs) cell has = elim (cases_Bool (cell_eq (f c) cell)) [
-  | inl same ↦ record { from = c; listed = has_cell-head c cs; sent = (cell_eq-decides (f c) cell).0 same }
-  | inr other ↦
-      search (rules, or_right, (source_of f cs cell (subst (λ b. (b || is_among (map f cs) cell) ≡ true) other has)))
-]
+source_of f (c ∷ cs) cell has = search (rules, (cases_Bool (cell_eq (f c) cell)), (has_cell-head c cs), (cell_eq-decides (f c) cell), or_right, (source_of f cs cell))
 
 -- and the changed list has what a cell of the list becomes
 pub has_cell-map : (f : Cell → Cell) (cells : List Cell) (cell : Cell) → is_among cells cell ≡ true → is_among (map f cells) (f cell) ≡ true

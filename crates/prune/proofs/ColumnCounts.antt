@@ -24,10 +24,7 @@ range_more from (suc n) = let e : from + 1 + n ≡ from + suc n = omega arith in
 -- one row more
 pub column_empties-suc : (F : Field) (n x : ℕ) → column_empties F (suc n) x ≡ column_empties F n x + cond (not (F x n)) 1 0
 unfolding column_empties
-column_empties-suc F n x =
-    let here : 0 + n ≡ n = omega arith in
-    ap (count_by (λ y. not (F x y))) (range_more 0 n) ∙ sum_by_push (λ y. cond (not (F x y)) 1 0) (range_with_len 0 n) (0 + n)
-    ∙ ap (λ y. count_by (λ y. not (F x y)) (range_with_len 0 n) + cond (not (F x y)) 1 0) here
+column_empties-suc F n x = search (rules, (range_more 0 n), (sum_by_push (λ y. cond (not (F x y)) 1 0) (range_with_len 0 n) (0 + n)))
 
 pub column_empties-zero : (F : Field) (x : ℕ) → column_empties F 0 x ≡ 0
 unfolding column_empties
@@ -55,18 +52,7 @@ all_empties F n = omega (arith, all_columns F n)
 count-either : {X : Type 0} (p q r ok : X → Bool) (xs : List X) → list_all ok xs ≡ true → ((x : X) → ok x ≡ true → p x ≡ (q x || r x)) → ((x : X) → (q x && r x) ≡ false) → count_by p xs ≡ count_by q xs + count_by r xs
 count-either p q r ok [] all either apart = refl
 count-either p q r ok (x ∷ xs) all either apart =
-    let parts = and_parts (ok x) (list_all ok xs) all in
-    omega (
-      arith,
-      sum_by-cons (λ x. cond (p x) 1 0) x xs,
-      sum_by-cons (λ x. cond (q x) 1 0) x xs,
-      sum_by-cons (λ x. cond (r x) 1 0) x xs,
-      here (p x) (q x) (r x) (either x parts.0) (apart x),
-      count-either p q r ok xs parts.1 either apart,
-    )
-  where
-    here : (a b c : Bool) → a ≡ (b || c) → (b && c) ≡ false → ◌≡◌ {A = ℕ} (cond a 1 0) (cond b 1 0 + cond c 1 0)
-    here a b c e none = search (rules, true≢false)
+    search (rules, (sum_by-cons (λ x. cond (p x) 1 0) x xs), (sum_by-cons (λ x. cond (q x) 1 0) x xs), (sum_by-cons (λ x. cond (r x) 1 0) x xs), (and_parts (ok x) (list_all ok xs) all), (count-either p q r ok xs (and_parts (ok x) (list_all ok xs) all).1 either apart), true≢false)
 
 abbrev pub column_of : Cell → ℕ
 column_of cell = nat_abs cell.0
@@ -96,12 +82,7 @@ module _ (F : Field) (rows : ℕ) (cells : List Cell) (empty : list_all (is_empt
       added a b c d e g = omega arith
 
       here : is_empty_below F rows (pos x, pos n) ≡ not (F x n)
-      here = both_ways _ _
-          (λ e. let c = empty_cell F rows (pos x, pos n) e in
-          let column : x ≡ c.x = ap (λ (c : Cell). nat_abs c.0) c.is in
-          let row : n ≡ c.y = ap (λ (c : Cell). nat_abs c.1) c.is in
-          ap not (ap (λ x. F x n) column ∙ ap (F c.x) row ∙ c.empty))
-          (λ e. is_empty_at F rows x n column (omega arith) (not-true (F x n) e))
+      here = search (rules, (empty_cell F rows (pos x, pos n)), (is_empty_at F rows x n column), (not-true (F x n)))
 
       apart : (c : Cell) → (in_column x n c && cell_eq c (pos x, pos n)) ≡ false
       apart c = search (rules, false_from_ne_true, and_parts, ltb-true, cell_eq-decides)
@@ -121,13 +102,8 @@ module _ (F : Field) (rows : ℕ) (cells : List Cell) (empty : list_all (is_empt
   -- as many of the cells stand in a column as it has empty cells
   pub one_column : (x : ℕ) → x < 10 → count_by (λ c. column_of c == x) cells ≡ column_empties F rows x
   unfolding in_column
-  one_column x column = count-agree (λ c. column_of c == x) (in_column x rows) (is_empty_below F rows) cells empty agree ∙ column_count x rows column (omega arith)
-    where
-      agree : (c : Cell) → is_empty_below F rows c ≡ true → (column_of c == x) ≡ in_column x rows c
-      agree c ok =
-          let e = empty_cell F rows c ok in
-          let row : row_of c ≡ e.y = ap (λ (c : Cell). nat_abs c.1) e.is in
-          sym (ap (λ b. column_of c == x && b) (lt-ltb (row_of c) rows (omega (arith, e.below))) ∙ and-true (column_of c == x))
+  one_column x column =
+      search (rules, (count-agree (λ c. column_of c == x) (in_column x rows) (is_empty_below F rows) cells empty), (column_count x rows column), (empty_cell F rows), lt-ltb, and-true)
 
   -- as many of the cells stand in neighbouring columns as these have empty cells
   pub columns_count : (first n : ℕ) → first + n ≤ 10 → count_by (in_columns first n) cells ≡ sum_by (column_empties F rows) (range_with_len first n)
@@ -135,14 +111,7 @@ module _ (F : Field) (rows : ℕ) (cells : List Cell) (empty : list_all (is_empt
   columns_count first (suc n) within =
       let one = one_column first (omega arith) in
       let more = columns_count (first + 1) n (omega arith) in
-      omega (arith, count-either (in_columns first (suc n)) (λ c. column_of c == first) (in_columns (first + 1) n) (is_empty_below F rows) cells empty (λ c _. either (column_of c)) (λ c. apart (column_of c)), one, more, sum_by-cons (column_empties F rows) first (range_with_len (first + 1) n))
-    where
-      either : (k : ℕ) → (nat_le first k && nat_lt k (first + suc n)) ≡ (k == first || (nat_le (first + 1) k && nat_lt k (first + 1 + n)))
-      either k =
-          search (rules, both_ways, and_parts, leb-true, ltb-true, cases_eq, or_cases, or_left, eq-eqb, or_right, and_from, le-leb, lt-ltb, eqb-true)
-
-      apart : (k : ℕ) → (k == first && (nat_le (first + 1) k && nat_lt k (first + 1 + n))) ≡ false
-      apart k = search (rules, false_from_ne_true, and_parts, eqb-true, leb-true)
+      search (rules, (count-either (in_columns first (suc n)) (λ c. column_of c == first) (in_columns (first + 1) n) (is_empty_below F rows) cells empty), (sum_by-cons (column_empties F rows) first (range_with_len (first + 1) n)), nat_lt, and_parts, leb-true, ltb-true, cases_eq, or_cases, or_left, eq-eqb, or_right, and_from, le-leb, lt-ltb, eqb-true, false_from_ne_true)
 
 -- a column with an empty cell isn't without one
 pub column_empties-some : (F : Field) (n x y : ℕ) → y < n → F x y ≡ false → 1 ≤ column_empties F n x

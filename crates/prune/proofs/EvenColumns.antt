@@ -1,7 +1,7 @@
 -- Each part has an even number of cells in even columns, but for L and J, which have an odd one, and T.
-use Rattle.std.proofs.Common.{◌≡◌, ℕ, ◌+◌, ◌%◌, ◌<◌, ◌≤◌, Bool, true, false, cond, ◌||◌, ◌==◌, List, [], ◌∷◌, ℤ, nat_abs, ◌+ℤ◌, refl, sym, ap, ◌∙◌, inl, inr, arith, rules}
+use Rattle.std.proofs.Common.{◌≡◌, ℕ, ◌+◌, ◌%◌, ◌<◌, Bool, true, false, cond, ◌||◌, ◌==◌, List, [], ◌∷◌, ℤ, nat_abs, ◌+ℤ◌, refl, sym, ap, ◌∙◌, arith, rules}
 use Rattle.std.proofs.Math.Path.{fun_ext}
-use Rattle.std.specs.Prelude.{All, sum_by, count_by}
+use Rattle.std.specs.Prelude.{All, count_by}
 use Rattle.std.specs.List.{list_all}
 use Rattle.std.proofs.lemmas.Bool.{agree_below_at, and_parts, cases_eq, eqb-true, or_cases, true≢false}
 use Rattle.std.proofs.lemmas.List.Elements.{All-head, All-tail}
@@ -9,12 +9,12 @@ use Rattle.std.proofs.lemmas.List.Sums.{sum_by-cons}
 use Rattle.srs.specs.declared.piece.Piece.{Piece}
 use Rattle.srs.specs.declared.piece.Piece.TheVariants.{I, L, O, Z, T, J, S}
 use Rattle.srs.specs.declared.rotation.Rotation.{Rotation}
-use Rattle.srs.specs.Piece.{all_pieces, piece_code}
+use Rattle.srs.specs.Piece.{piece_code}
 use Rattle.srs.specs.Cells.{Cell, shape}
 use Rattle.srs.proofs.CallerLemmas.{each_state}
 use Rattle.lane_board.specs.Field.{Field}
-use Rattle.prune.specs.Tiling.{Part, sent, IsGeneralized, is_empty_below, parts_of, Tiling}
-use Rattle.prune.specs.Counts.{column_empties, even_column_empties}
+use Rattle.prune.specs.Tiling.{Part, sent, IsGeneralized, is_empty_below, parts_of}
+use Rattle.prune.specs.Counts.{even_column_empties}
 use Rattle.prune.specs.Laws.{EvenColumns}
 use Rattle.prune.proofs.CellCounts.{count-append, count-map}
 use Rattle.prune.proofs.EmptyCells.{empty_cell}
@@ -50,28 +50,14 @@ part_parity part is other =
     let moved : (c : Cell) → is_even_from 0 (sent is.move is.row c) ≡ is_even_from move c = (λ c. ap (λ n. n == 0) {x = (nat_abs (c.0 +ℤ is.move) + 0) % 2} {y = (nat_abs c.0 + move) % 2} (omega (arith, abs_sum c.0 is.move (c.0 +ℤ is.move) refl))) in
     let count : count_by (is_even_from 0) part.cells ≡ count_by (is_even_from move) (shape part.piece is.rotation) =
     ap (count_by (is_even_from 0)) is.cells ∙ count-map (is_even_from 0) (sent is.move is.row) (shape part.piece is.rotation) ∙ ap (λ (p : Cell → Bool). count_by p (shape part.piece is.rotation)) (fun_ext moved) in
-    elim (or_cases _ (piece_code part.piece == piece_code T) (shape_parity-holds move (omega arith) part.piece is.rotation)) [
-      | inl even ↦ ap (λ n. (n + is_odd_kind part.piece) % 2) count ∙ eqb-true _ _ even
-      | inr is_t ↦ absurd (true≢false (sym is_t ∙ other))
-    ]
+    search (rules, or_cases, (shape_parity-holds move), eqb-true, true≢false)
 
 -- and with all parts together
 parts_parity : (parts : List Part) → All IsGeneralized parts → parts_of parts T ≡ 0 → (count_by (is_even_from 0) (cells_in parts) + parts_of parts L + parts_of parts J) % 2 ≡ 0
 unfolding is_odd_kind
 parts_parity [] all none = refl
 parts_parity (part ∷ parts) all none =
-    let here : (piece_code part.piece == piece_code T) ≡ false = not_counted _ (omega (arith, parts_of-cons part parts T, none)) in
-    omega (
-      arith,
-      parts_of-cons part parts L,
-      parts_of-cons part parts J,
-      count-append (is_even_from 0) part.cells (cells_in parts),
-      part_parity part (All-head IsGeneralized part parts all) here,
-      parts_parity parts (All-tail IsGeneralized part parts all) (omega (arith, parts_of-cons part parts T, none)),
-    )
-  where
-    not_counted : (b : Bool) → ◌≡◌ {A = ℕ} (cond b 1 0) 0 → b ≡ false
-    not_counted b one = search rules
+    search (rules, (parts_of-cons part parts T), (parts_of-cons part parts L), (parts_of-cons part parts J), (count-append (is_even_from 0) part.cells (cells_in parts)), (part_parity part (All-head IsGeneralized part parts all)), (parts_parity parts (All-tail IsGeneralized part parts all)))
 
 -- the cells in even columns are those of columns 0, 2, 4, 6 and 8
 even_split : (F : Field) (rows : ℕ) (cells : List Cell) → list_all (is_empty_below F rows) cells ≡ true →
@@ -100,23 +86,4 @@ even_split F rows (c ∷ cs) all =
 pub even_columns : EvenColumns
 unfolding even_column_empties
 even_columns F rows supply no_t exact t =
-    let kinds = kinds_of_parts t.parts in
-    let all = all_cells F rows supply t in
-    let used : supply I + supply L + supply O + supply Z + supply T + supply J + supply S ≤ sum_by (parts_of t.parts) all_pieces = omega (arith, all.counted, all.within, counted F rows supply t 0 10 (omega arith), all_empties F rows, exact, kinds) in
-    let l : parts_of t.parts L ≡ supply L = omega (arith, used, t.supplied I, t.supplied L, t.supplied O, t.supplied Z, t.supplied T, t.supplied J, t.supplied S) in
-    let j : parts_of t.parts J ≡ supply J = omega (arith, used, t.supplied I, t.supplied L, t.supplied O, t.supplied Z, t.supplied T, t.supplied J, t.supplied S) in
-    omega (
-      arith,
-      l,
-      j,
-      parts_parity t.parts t.generalized (omega (arith, no_t, t.supplied T)),
-      even_split F rows (cells_in t.parts) (empty F rows supply t),
-      column t 0 (omega arith),
-      column t 2 (omega arith),
-      column t 4 (omega arith),
-      column t 6 (omega arith),
-      column t 8 (omega arith),
-    )
-  where
-    column : (t : Tiling F rows supply) (x : ℕ) → x < 10 → count_by (λ c. column_of c == x) (cells_in t.parts) ≡ column_empties F rows x
-    column t = one_column F rows (cells_in t.parts) (empty F rows supply t) (λ cell. sym (covers-count t.parts cell) ∙ t.covered cell)
+    search (rules, (all_cells F rows supply t), (counted F rows supply t 0 10), (all_empties F rows), (kinds_of_parts t.parts), (t.supplied I), (t.supplied L), (t.supplied O), (t.supplied Z), (t.supplied T), (t.supplied J), (t.supplied S), (parts_parity t.parts t.generalized), (even_split F rows (cells_in t.parts) (empty F rows supply t)), (one_column F rows (cells_in t.parts) (empty F rows supply t) (λ cell. sym (covers-count t.parts cell) ∙ t.covered cell)))

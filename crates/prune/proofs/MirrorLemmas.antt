@@ -73,18 +73,13 @@ module _ (part : Part) (is : IsGeneralized part) where
   has_shown : (cell : Cell) → is_among part.cells cell ≡ true → is_among shown.cells (mirror_cell cell) ≡ true
   unfolding shown
   has_shown cell has =
-      let source : Source (sent is.move is.row) (shape part.piece is.rotation) cell = source_of (sent is.move is.row) (shape part.piece is.rotation) cell (subst (λ cells. is_among cells cell ≡ true) is.cells has) in
-      let listed : is_among there (flip source.from) ≡ true = is_among-all (λ c. is_among there (flip c)) (shape part.piece is.rotation) source.from (flips_in part.piece is.rotation) source.listed in
-      subst (λ c. is_among (map (sent move is.row) there) c ≡ true) (sent_flipped source.from ∙ ap mirror_cell source.sent) (has_cell-map (sent move is.row) there (flip source.from) listed)
+      search (rules, (source_of (sent is.move is.row) (shape part.piece is.rotation) cell (subst (λ cells. is_among cells cell ≡ true) is.cells has)), (is_among-all (λ c. is_among there (flip c)) (shape part.piece is.rotation)), (flips_in part.piece is.rotation), sent_flipped, (has_cell-map (sent move is.row) there))
 
   has_real : (cell : Cell) → is_among shown.cells (mirror_cell cell) ≡ true → is_among part.cells cell ≡ true
   unfolding shown
   has_real cell has =
       let source : Source (sent move is.row) there (mirror_cell cell) = source_of (sent move is.row) there (mirror_cell cell) has in
-      let to : mirror_cell (sent is.move is.row (flip source.from)) ≡ mirror_cell cell = sym (sent_flipped (flip source.from)) ∙ ap (sent move is.row) (flip_again source.from) ∙ source.sent in
-      let same : sent is.move is.row (flip source.from) ≡ cell = sym (cell_again (sent is.move is.row (flip source.from))) ∙ ap mirror_cell to ∙ cell_again cell in
-      subst (λ cells. is_among cells cell ≡ true) (sym is.cells)
-      (subst (λ c. is_among (map (sent is.move is.row) (shape part.piece is.rotation)) c ≡ true) same (has_cell-map (sent is.move is.row) (shape part.piece is.rotation) (flip source.from) (back source.from source.listed)))
+      search (rules, (sent_flipped (flip source.from)), (flip_again source.from), (cell_again (sent is.move is.row (flip source.from))), (cell_again cell), (has_cell-map (sent is.move is.row) (shape part.piece is.rotation) (flip source.from) (back source.from source.listed)))
 
   -- it covers what the part covers
   shown_count : (cell : Cell) → count_in shown.cells (mirror_cell cell) ≡ count_in part.cells cell

@@ -1,5 +1,5 @@
 -- The cells of parts, and which cells they cover.
-use Rattle.std.proofs.Common.{◌≡◌, ℕ, ◌+◌, ◌≤◌, true, false, cond, ◌==◌, List, ◌∷◌, length, ℤ, refl, sym, ap, subst, ◌∙◌, arith, rules}
+use Rattle.std.proofs.Common.{◌≡◌, ℕ, ◌+◌, ◌≤◌, true, false, cond, ◌==◌, List, ◌∷◌, length, ℤ, refl, sym, ap, ◌∙◌, rules}
 use Rattle.std.specs.Prelude.{int_lt}
 use Rattle.std.specs.List.{list_all, flat_map}
 use Rattle.std.proofs.lemmas.Bool.{cases_Bool, eqb-true, cond-false, true≢false, ltb-false, true_from_ne_false}
@@ -26,8 +26,7 @@ covers-cons part parts cell = covers-count (part ∷ parts) cell ∙ count_in-ap
 
 -- each cell of the parts of a tiling is an empty one
 pub cells_empty : (F : Field) (rows : ℕ) (parts : List Part) → ((cell : Cell) → covers parts cell ≡ cond (is_empty_below F rows cell) 1 0) → list_all (is_empty_below F rows) (cells_in parts) ≡ true
-cells_empty F rows parts covered = list_all-from_is_among (is_empty_below F rows) (cells_in parts) (λ cell has. true_from_ne_false _ (λ filled.
-    omega (arith, covers-count parts cell, count_in-some (cells_in parts) cell has, covered cell, cond-false {A = ℕ} (is_empty_below F rows cell) 1 0 filled)))
+cells_empty F rows parts covered = list_all-from_is_among (is_empty_below F rows) (cells_in parts) (λ cell has. true_from_ne_false _ (search (rules, (covers-count parts), (count_in-some (cells_in parts)), cond-false)))
 
 -- no cell stands twice in a shape, and each shape has four
 shape_once : (piece : Piece) (rotation : Rotation) → list_all (λ c. count_in (shape piece rotation) c == 1) (shape piece rotation) ≡ true
@@ -49,7 +48,5 @@ sent_apart part is c d has_c has_d same = search (rules, cases_Bool, neither)
 
 -- no cell stands twice in a generalized piece
 pub part_once : (part : Part) → IsGeneralized part → (cell : Cell) → count_in part.cells cell ≤ 1
-part_once part is cell = subst (λ cells. count_in cells cell ≤ 1) (sym is.cells) (once_sent (sent is.move is.row) (shape part.piece is.rotation) once (sent_apart part is) cell)
-  where
-    once : (c : Cell) → is_among (shape part.piece is.rotation) c ≡ true → count_in (shape part.piece is.rotation) c ≤ 1
-    once c has = omega (arith, eqb-true _ _ (is_among-all (λ c. count_in (shape part.piece is.rotation) c == 1) (shape part.piece is.rotation) c (shape_once part.piece is.rotation) has))
+part_once part is cell =
+    search (rules, (once_sent (sent is.move is.row) (shape part.piece is.rotation)), (sent_apart part is), eqb-true, (is_among-all (λ c. count_in (shape part.piece is.rotation) c == 1) (shape part.piece is.rotation)), (shape_once part.piece is.rotation))

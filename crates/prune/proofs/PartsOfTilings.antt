@@ -51,10 +51,7 @@ one_part_more F rows part supply is empty t = record {
         search (rules, cases_Bool, is_among-all, part_once, count_in-some, cond-false, and_right, not_from_true, cond-true, and-true, count_in-none)
 
     supplied : (piece : Piece) → parts_of t.parts piece ≤ supply piece → parts_of (part ∷ t.parts) piece ≤ cond (piece_code part.piece == piece_code piece) (suc (supply piece)) (supply piece)
-    supplied piece enough = elim (cases_Bool (piece_code part.piece == piece_code piece)) [
-      | inl same ↦ omega (arith, parts_of-cons part t.parts piece, cond-true {A = ℕ} _ 1 0 same, cond-true {A = ℕ} _ (suc (supply piece)) (supply piece) same, enough)
-      | inr other ↦ omega (arith, parts_of-cons part t.parts piece, cond-false {A = ℕ} _ 1 0 other, cond-false {A = ℕ} _ (suc (supply piece)) (supply piece) other, enough)
-    ]
+    supplied piece enough = search (rules, cases_Bool, (parts_of-cons part t.parts), cond-true, cond-false)
 
 pub with_part : (F : Field) (rows : ℕ) (part : Part) (supply : Supply) → IsGeneralized part → list_all (is_empty_below F rows) part.cells ≡ true →
     Tiling (with_cells F part.cells) rows supply → Tiling F rows (with_one supply part.piece)

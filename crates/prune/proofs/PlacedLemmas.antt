@@ -1,9 +1,8 @@
 -- A placement is a generalized piece: what one of them, and a run of them, does to tilings.
-use Rattle.std.proofs.Common.{◌≡◌, ℕ, suc, ◌-◌, ◌<◌, ◌≤◌, Bool, true, ◌==◌, List, [], ◌∷◌, map, ℤ, pos, negsuc, nat_abs, ◌+ℤ◌, refl, sym, ap, subst, ◌∙◌, inl, inr, arith, rules}
+use Rattle.std.proofs.Common.{◌≡◌, ℕ, ◌-◌, ◌<◌, ◌≤◌, Bool, true, ◌==◌, List, [], ◌∷◌, map, ℤ, pos, negsuc, nat_abs, ◌+ℤ◌, refl, subst, arith, rules}
 use Rattle.std.specs.Prelude.{int_lt}
 use Rattle.std.specs.List.{list_all}
 use Rattle.std.proofs.lemmas.Bool.{cases_Bool, cond-true, cond-false, and_parts, false≢true, ltb-true, leb-true, not-true}
-use Rattle.std.proofs.lemmas.Int.{ints}
 use Rattle.srs.specs.declared.piece.Piece.{Piece}
 use Rattle.srs.specs.declared.placement.Placement.{Placement}
 use Rattle.srs.specs.Piece.{piece_code}
@@ -38,28 +37,18 @@ row_of q z = nat_abs (pos q.y +ℤ z)
 module _ (q : Placement) (inside : is_inside_of q ≡ true) where
   at : (c : Cell) → is_among (shape q.piece q.rotation) c ≡ true → pos q.y +ℤ c.1 ≡ pos (row_of q c.1)
   unfolding moved row_of
-  at c has =
-      let lies = in_well-place _ (inside_cell q c inside has) in
-      let row : pos q.y +ℤ c.1 ≡ pos lies.y = ap (λ (c : Cell). c.1) lies.is in
-      row ∙ ap pos (sym (ap nat_abs row))
+  at c has = search (rules, in_well-place, (inside_cell q c inside has))
 
   same_cell : (c : Cell) → is_among (shape q.piece q.rotation) c ≡ true → moved (pivot_of q) c ≡ sent (pos q.x) (row_of q) c
   unfolding moved sent
-  same_cell c has =
-      let x : pos q.x +ℤ c.0 ≡ c.0 +ℤ pos q.x = omega (arith, ints) in
-      λ i. (x i, at c has i)
+  same_cell c has = search (rules, (c.0 +ℤ pos q.x), (at c has))
 
   rise : (a b : ℤ) → int_lt a b ≡ true → pos q.y +ℤ a ≡ pos (row_of q a) → pos q.y +ℤ b ≡ pos (row_of q b) → row_of q a < row_of q b
   rise a b lower at_a at_b = search (rules, ltb-true, false≢true)
 
   pub placed_generalized : IsGeneralized (placed q)
-  placed_generalized = record {
-    rotation = q.rotation;
-    move = pos q.x;
-    row = row_of q;
-    rising = λ c d has_c has_d lower. rise c.1 d.1 lower (at c has_c) (at d has_d);
-    cells = map-agree (moved (pivot_of q)) (sent (pos q.x) (row_of q)) (is_among (shape q.piece q.rotation)) (shape q.piece q.rotation) (list_all-from_is_among (is_among (shape q.piece q.rotation)) (shape q.piece q.rotation) (λ c has. has)) same_cell;
-  }
+  placed_generalized =
+      search (rules, rise, at, (map-agree (moved (pivot_of q)) (sent (pos q.x) (row_of q)) (is_among (shape q.piece q.rotation)) (shape q.piece q.rotation) (list_all-from_is_among (is_among (shape q.piece q.rotation)) (shape q.piece q.rotation) (λ c has. has)) same_cell))
 
 -- the cells of a free placement below a row are empty ones
 open_below : (F : Field) (rows : ℕ) (cell : Cell) → is_open F cell ≡ true → int_lt cell.1 (pos rows) ≡ true → is_empty_below F rows cell ≡ true
@@ -87,12 +76,7 @@ one_placement F q height supply within below free placed_below t =
     (subst (λ G. Tiling G height supply) (together_is F q) ((full_rows_may_stand F q height supply within below free placed_below).1 t))
 
 pub more_pieces : MorePieces
-more_pieces F rows supply more enough t = record {
-  parts = t.parts;
-  generalized = t.generalized;
-  covered = t.covered;
-  supplied = λ piece. omega (arith, t.supplied piece, enough piece);
-}
+more_pieces F rows supply more enough t = search (rules, t.supplied)
 
 no_rows : (F : Field) (rows : ℕ) (supply : Supply) → rows ≡ 0 → Tiling F rows supply
 unfolding covers
@@ -100,10 +84,8 @@ no_rows F rows supply none = search (rules, cond-false, none_below)
 
 one_more : (q : Placement) (rest : List Placement) (piece : Piece) → with_one (kinds_placed rest) q.piece piece ≤ kinds_placed (q ∷ rest) piece
 unfolding with_one kinds_placed
-one_more q rest piece = elim (cases_Bool (piece_code q.piece == piece_code piece)) [
-  | inl same ↦ omega (arith, count-yes (λ q. piece_code q.piece == piece_code piece) q rest same, cond-true {A = ℕ} _ (suc (kinds_placed rest piece)) (kinds_placed rest piece) same)
-  | inr other ↦ omega (arith, count-no (λ q. piece_code q.piece == piece_code piece) q rest other, cond-false {A = ℕ} _ (suc (kinds_placed rest piece)) (kinds_placed rest piece) other)
-]
+one_more q rest piece =
+    search (rules, (cases_Bool (piece_code q.piece == piece_code piece)), (count-yes (λ q. piece_code q.piece == piece_code piece) q rest), cond-true, (count-no (λ q. piece_code q.piece == piece_code piece) q rest), cond-false)
 
 pub cleared_is_tiled : ClearedIsTiled
 cleared_is_tiled F rows [] within below none = no_rows F rows (kinds_placed []) none

@@ -1,8 +1,7 @@
 -- A tiling stays one where its rows are sent to others, in their order.
-use Rattle.std.proofs.Common.{◌≡◌, ℕ, ◌<◌, true, false, cond, ◌==◌, List, [], ◌∷◌, ◌++◌, map, ℤ, pos, negsuc, ◌+ℤ◌, refl, sym, ap, subst, ◌∙◌, inl, inr, arith, rules}
-use Rattle.std.specs.Prelude.{All, count_by}
+use Rattle.std.proofs.Common.{◌≡◌, ℕ, ◌<◌, true, false, cond, ◌==◌, List, [], ◌∷◌, ◌++◌, map, ℤ, pos, negsuc, ◌+ℤ◌, refl, sym, ap, subst, ◌∙◌, inl, inr, rules}
+use Rattle.std.specs.Prelude.{All}
 use Rattle.std.specs.List.{list_all}
-use Rattle.std.specs.Cmp.{both_ways}
 use Rattle.std.proofs.lemmas.Bool.{cases_Bool, cond-true, cond-false, false_from_ne_true, true≢false, and_parts, cases_order}
 use Rattle.std.proofs.lemmas.List.Elements.{All-nil, All-cons, All-head, All-tail}
 use Rattle.std.proofs.lemmas.List.Folds.{list_all-append}
@@ -10,7 +9,7 @@ use Rattle.std.proofs.lemmas.List.{map-append}
 use Rattle.srs.specs.declared.piece.Piece.{Piece}
 use Rattle.srs.specs.Piece.{piece_code}
 use Rattle.srs.specs.Cells.{Cell, shape}
-use Rattle.srs.specs.SameCells.{cell_eq, is_among}
+use Rattle.srs.specs.SameCells.{cell_eq}
 use Rattle.srs.proofs.CallerLemmas.{cell_eq-decides, is_among-all}
 use Rattle.lane_board.specs.Field.{Field}
 use Rattle.prune.specs.Tiling.{Part, sent, IsGeneralized, is_empty_below, covers, parts_of, Tiling, Supply}
@@ -63,14 +62,8 @@ sent_to f move row (c ∷ cs) = ap (λ rest. (c.0 +ℤ move, pos (f (row c.1))) 
 module _ (F : Field) (rows : ℕ) (G : Field) (left : ℕ) (f : ℕ → ℕ) (sends : SendsRows F rows G left f) where
   pub generalized_to : (part : Part) → list_all (is_empty_below F rows) part.cells ≡ true → IsGeneralized part → IsGeneralized (part_to f part)
   unfolding sent
-  generalized_to part empty is = search (rules, sent_to, at, rise)
-    where
-      at : (c : Cell) → is_among (shape part.piece is.rotation) c ≡ true → EmptyCell F rows (c.0 +ℤ is.move, pos (is.row c.1))
-      at c has = empty_cell F rows _ (is_among-all (is_empty_below F rows) part.cells (sent is.move is.row c) empty
-          (subst (λ cells. is_among cells (sent is.move is.row c) ≡ true) (sym is.cells) (has_cell-map (sent is.move is.row) (shape part.piece is.rotation) c has)))
-
-      rise : (c d : Cell) → EmptyCell F rows (c.0 +ℤ is.move, pos (is.row c.1)) → EmptyCell F rows (d.0 +ℤ is.move, pos (is.row d.1)) → is.row c.1 < is.row d.1 → f (is.row c.1) < f (is.row d.1)
-      rise c d e g lower = search rules
+  generalized_to part empty is =
+      search (rules, sent_to, is.row, (empty_cell F rows), (is_among-all (is_empty_below F rows) part.cells), (has_cell-map (sent is.move is.row) (shape part.piece is.rotation)))
 
   all_generalized_to : (parts : List Part) → list_all (is_empty_below F rows) (cells_in parts) ≡ true → All IsGeneralized parts → All IsGeneralized (parts_to f parts)
   all_generalized_to [] empty all = All-nil IsGeneralized
@@ -89,13 +82,7 @@ module _ (F : Field) (rows : ℕ) (G : Field) (left : ℕ) (f : ℕ → ℕ) (se
   same_to : (x y : ℕ) → x < 10 → y < rows → F x y ≡ false → (cell : Cell) → is_empty_below F rows cell ≡ true → cell_eq (cell_to f cell) (pos x, pos (f y)) ≡ cell_eq cell (pos x, pos y)
   unfolding cell_to row_to
   same_to x y column below empty cell here =
-      let e = empty_cell F rows cell here in
-      both_ways _ _
-      (λ same. (cell_eq-decides cell (pos x, pos y)).1 (e.is ∙ back e (subst (λ c. cell_to f c ≡ (pos x, pos (f y))) e.is ((cell_eq-decides (cell_to f cell) (pos x, pos (f y))).0 same))))
-      (λ same. (cell_eq-decides (cell_to f cell) (pos x, pos (f y))).1 (ap (cell_to f) ((cell_eq-decides cell (pos x, pos y)).0 same)))
-    where
-      back : (e : EmptyCell F rows cell) → ◌≡◌ {A = Cell} (pos e.x, pos (f e.y)) (pos x, pos (f y)) → ◌≡◌ {A = Cell} (pos e.x, pos e.y) (pos x, pos y)
-      back e same = search (rules, cases_order)
+      search (rules, (cell_eq-decides cell (pos x, pos y)), (empty_cell F rows cell here), (cell_eq-decides (cell_to f cell) (pos x, pos (f y))), cases_order)
 
   covered_to : (parts : List Part) → ((cell : Cell) → covers parts cell ≡ cond (is_empty_below F rows cell) 1 0) → (cell : Cell) → covers (parts_to f parts) cell ≡ cond (is_empty_below G left cell) 1 0
   unfolding count_in
@@ -109,19 +96,8 @@ module _ (F : Field) (rows : ℕ) (G : Field) (left : ℕ) (f : ℕ → ℕ) (se
   ]
     where
       at_empty : EmptyCell G left cell → is_empty_below G left cell ≡ true → covers (parts_to f parts) cell ≡ cond (is_empty_below G left cell) 1 0
-      at_empty e here =
-          let old = sends.before e.x e.y e.in_columns e.below e.empty in
-          let is : cell ≡ (pos e.x, pos (f old.y)) = e.is ∙ (λ i. (pos e.x, pos (sym old.sent i))) in
-          covers-count (parts_to f parts) cell ∙ ap (λ cells. count_in cells cell) (cells_in-to f parts) ∙ count-map (λ c. cell_eq c cell) (cell_to f) (cells_in parts)
-          ∙ ap (λ place. count_by (λ c. cell_eq (cell_to f c) place) (cells_in parts)) is
-          ∙ count-agree (λ c. cell_eq (cell_to f c) (pos e.x, pos (f old.y))) (λ c. cell_eq c (pos e.x, pos old.y)) (is_empty_below F rows) (cells_in parts) (cells_empty F rows parts covered) (same_to e.x old.y e.in_columns old.below old.empty)
-          ∙ sym (covers-count parts (pos e.x, pos old.y)) ∙ covered (pos e.x, pos old.y) ∙ cond-true {A = ℕ} _ 1 0 (is_empty_at F rows e.x old.y e.in_columns old.below old.empty)
-          ∙ sym (cond-true {A = ℕ} (is_empty_below G left cell) 1 0 here)
+      at_empty e here = search (rules, (covers-count (parts_to f parts) cell), (cells_in-to f parts), (count-map (λ c. cell_eq c cell) (cell_to f) (cells_in parts)), count-agree, (cells_empty F rows parts covered), same_to, (covers-count parts), cond-true, (is_empty_at F rows))
 
   pub tiling_to : (supply : Supply) → Tiling F rows supply → Tiling G left supply
-  tiling_to supply t = record {
-    parts = parts_to f t.parts;
-    generalized = all_generalized_to t.parts (cells_empty F rows t.parts t.covered) t.generalized;
-    covered = covered_to t.parts t.covered;
-    supplied = λ piece. omega (arith, t.supplied piece, parts_of-to f t.parts piece);
-  }
+  tiling_to supply t =
+      search (rules, (all_generalized_to t.parts (cells_empty F rows t.parts t.covered) t.generalized), (covered_to t.parts t.covered), t.supplied, (parts_of-to f t.parts))

@@ -1,5 +1,5 @@
 -- Rows before and after full ones are removed: each row that is left was one that isn't full, and they keep their order.
-use Rattle.std.proofs.Common.{◌≡◌, ℕ, zero, suc, ◌+◌, ◌-◌, ◌<◌, ◌≤◌, false, cond, ◌==◌, sym, ap, ◌∙◌, arith, rules}
+use Rattle.std.proofs.Common.{◌≡◌, ℕ, zero, suc, ◌+◌, ◌-◌, ◌<◌, ◌≤◌, false, cond, ◌==◌, arith, rules}
 use Rattle.std.specs.Prelude.{◌↔◌}
 use Rattle.std.proofs.lemmas.Bool.{cases_Bool, cases_eq, cases_order, cond-true, cond-false, false_from_ne_true, false≢true, eq-eqb, ne_eqb}
 use Rattle.lane_board.specs.Field.{Field}
@@ -41,9 +41,7 @@ module _ (G : Field) (height : ℕ) (within : height ≤ 23) (none : (x y : ℕ)
 
   -- a cell of a row that is left is empty where it was
   still_empty : (x y row : ℕ) → is_full G row ≡ false → y + full_below G row ≡ row → G x row ≡ false → without_full_rows G 23 x y ≡ false
-  still_empty x y row stays lowered empty = false_from_ne_true _ (λ filled.
-      let was = lowered_from G 23 x y filled in
-      false≢true (sym empty ∙ ap (G x) (one_row G y row was.row stays was.stays lowered was.lowered) ∙ was.filled))
+  still_empty x y row stays lowered empty = search (rules, false_from_ne_true, false≢true, (one_row G y row), (lowered_from G 23 x y))
 
   was_empty : (x y row : ℕ) → row < height → is_full G row ≡ false → y + full_below G row ≡ row → without_full_rows G 23 x y ≡ false → G x row ≡ false
   was_empty x y row below stays lowered empty = search (rules, false_from_ne_true, false≢true, lowered_to)

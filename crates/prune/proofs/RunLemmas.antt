@@ -1,5 +1,5 @@
 -- A walk over the columns finds an uneven run where there is one.
-use Rattle.std.proofs.Common.{◌≡◌, ◌≢◌, ◌⊎◌, ℕ, ◌+◌, ◌-◌, ◌*◌, ◌%◌, ◌<◌, ◌≤◌, not, ◌==◌, Decides, sym, ap, ◌∙◌, inl, inr, arith, rules}
+use Rattle.std.proofs.Common.{◌≡◌, ◌≢◌, ◌⊎◌, ℕ, ◌+◌, ◌-◌, ◌*◌, ◌%◌, ◌<◌, ◌≤◌, not, ◌==◌, Decides, ap, ◌∙◌, inl, inr, arith, rules}
 use Rattle.std.specs.Prelude.{sum_by}
 use Rattle.std.specs.List.{range_with_len}
 use Rattle.std.proofs.lemmas.Bool.{cases_lt, cases_order, eqb-true, eq-eqb, not_from_false, false_from_ne_true, false≢true}
@@ -40,11 +40,7 @@ unfolding run_empties
 last_count F rows x run r some = search rules
 
 pub finds : (F : Field) (rows x run : ℕ) → x ≤ 10 → (x < 10 → column_empties F rows x ≡ 0) → Runs F rows x run → run % 4 ≢ 0 → HasUnevenRun F rows
-finds F rows x run within closed r uneven = found (cases_lt r.first x)
-  where
-    found : (r.first < x) ⊎ (x ≤ r.first) → HasUnevenRun F rows
-    found (inl some) = record { first = r.first; last = x - 1; run = last_run F rows x run within closed r some; uneven = λ even. uneven (ap (λ n. n % 4) (sym (last_count F rows x run r some)) ∙ even) }
-    found (inr none) = search rules
+finds F rows x run within closed r uneven = search (rules, (cases_lt r.first x), (last_run F rows x run within closed r), (last_count F rows x run r))
 
 -- a run that begins no later than column x, where this one has no empty cell, is an earlier one or the last one
 even_below : (F : Field) (rows x run : ℕ) → x ≤ 10 → (x < 10 → column_empties F rows x ≡ 0) → Runs F rows x run → run % 4 ≡ 0 → (a b : ℕ) → b < x → IsRun F rows a b → run_empties F rows a b % 4 ≡ 0
@@ -71,7 +67,4 @@ stops F rows x run within closed even r = search (rules, cases_order, even_below
 
 -- at the end there is an uneven run exactly where the last one is
 pub ends : (F : Field) (rows x run : ℕ) → 10 ≤ x → x ≤ 10 → Runs F rows x run → Decides (not (run % 4 == 0)) (HasUnevenRun F rows)
-ends F rows x run low high r = (
-  λ uneven. finds F rows x run high (λ below. absurd (omega arith)) r (λ even. false≢true (sym (ap not (eq-eqb _ _ even)) ∙ uneven)),
-  λ has. not_from_false _ (false_from_ne_true _ (λ even. has.uneven (even_below F rows x run high (λ below. absurd (omega arith)) r (eqb-true _ _ even) has.first has.last (omega (arith, has.run.within)) has.run))),
-)
+ends F rows x run low high r = search (rules, (finds F rows x run high), false≢true, eq-eqb, not_from_false, false_from_ne_true, (even_below F rows x run high), eqb-true)

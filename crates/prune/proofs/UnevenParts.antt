@@ -20,8 +20,7 @@ in-both : (F : Field) (rows first n : ℕ) → empties_in F rows 0 (first + n) �
 in-both F rows first zero = ap (λ k. empties_in F rows 0 k) {x = first + 0} {y = first} (omega arith) ∙ omega arith
 in-both F rows first (suc n) =
     let more : first + suc n ≡ suc (first + n) = omega arith in
-    let column : 0 + (first + n) ≡ first + n = omega arith in
-    omega (arith, ap (empties_in F rows 0) more, in-suc F rows 0 (first + n), ap (column_empties F rows) column, in-both F rows first n, in-suc F rows first n)
+    search (rules, (in-suc F rows 0 (first + n)), (in-both F rows first n), (in-suc F rows first n))
 
 -- after the columns before x: they have so many empty cells, and at each wall so far a multiple of four stands before it
 pub record Parts (F : Field) (rows x count : ℕ) : Type 0 where
@@ -51,12 +50,4 @@ parts-found F rows x count empties within here uneven is p = record {
 -- at the end there is none
 pub parts-none : (F : Field) (rows x count : ℕ) → 10 ≤ x → Parts F rows x count → HasUnevenPart F rows → ⊥
 unfolding run_empties
-parts-none F rows x count end p u =
-    let size : u.first + (u.last + 1 - u.first) ≡ u.last + 1 = omega (arith, u.order) in
-    u.uneven (omega (
-      arith,
-      in-both F rows u.first (u.last + 1 - u.first),
-      ap (empties_in F rows 0) size,
-      p.even u.first (omega (arith, u.order, u.within)) u.left,
-      p.even (u.last + 1) (omega (arith, u.within)) u.right,
-    ))
+parts-none F rows x count end p u = search (rules, u.uneven, (in-both F rows u.first (u.last + 1 - u.first)), (p.even u.first), (p.even (u.last + 1)))

@@ -1,9 +1,8 @@
 -- A part does not reach over a wall: where it has cells on both sides, two of them stand side by side in one row.
-use Rattle.std.proofs.Common.{◌≡◌, ◌⊎◌, ℕ, zero, suc, ◌+◌, ◌-◌, ◌<◌, ◌≤◌, Bool, true, not, ◌&&◌, ◌||◌, List, [], ◌∷◌, ℤ, pos, nat_abs, ◌+ℤ◌, ◌<ℤ◌, refl, sym, ap, subst, ◌∙◌, inl, inr, arith, rules}
+use Rattle.std.proofs.Common.{◌≡◌, ℕ, zero, suc, ◌+◌, ◌-◌, ◌<◌, ◌≤◌, Bool, true, not, ◌&&◌, ◌||◌, List, [], ◌∷◌, ℤ, pos, nat_abs, ◌+ℤ◌, ◌<ℤ◌, refl, sym, ap, subst, ◌∙◌, arith, rules}
 use Rattle.std.specs.Prelude.{int_lt}
 use Rattle.std.specs.List.{list_all, list_any}
 use Rattle.std.specs.Ordering.{int_eq}
-use Rattle.std.specs.Cmp.{signed_Decides}
 use Rattle.std.proofs.lemmas.Bool.{cases_Bool, cases_lt, and_parts, and_from, or_right, false≢true, ltb-true, lt-ltb, leb-true, le-leb}
 use Rattle.std.proofs.lemmas.Int.{ints}
 use Rattle.srs.specs.declared.piece.Piece.{Piece}
@@ -36,11 +35,7 @@ record Beside (cells all : List Cell) (c : Cell) : Type 0 where
 beside_in : (cells all : List Cell) (c : Cell) → some_beside cells all c ≡ true → Beside cells all c
 unfolding some_beside is_among
 beside_in [] all c some = absurd (false≢true some)
-beside_in (e ∷ es) all c some = elim (cases_Bool (int_eq e.0 c.0 && is_among all (e.0 +ℤ pos 1, e.1))) [
-  | inl here ↦ search (rules, and_parts, has_cell-head, signed_Decides)
-  | inr other ↦
-      search (rules, or_right, (beside_in es all c (subst (λ b. (b || some_beside es all c) ≡ true) other some)))
-]
+beside_in (e ∷ es) all c some = search (rules, (cases_Bool (int_eq e.0 c.0 && is_among all (e.0 +ℤ pos 1, e.1))), and_parts, has_cell-head, or_right, (beside_in es all c))
 
 below_to : (a b : ℤ) → a <ℤ b → int_lt a b ≡ true
 below_to a b order = search (rules, lt-ltb)
@@ -116,9 +111,7 @@ module _ (F : Field) (rows : ℕ) (part : Part) (is : IsGeneralized part) (empty
           is_wall.apart (omega arith) (omega (arith, r.in_columns)) r.y r.below
           (ap (λ x. F x r.y) (sym before) ∙ ap (F l.x) (sym same_row) ∙ l.empty)
           (ap (λ x. F x r.y) (sym behind) ∙ r.empty)
-  not_over wall (suc k) is_wall c d has_c has_d here beyond =
-      let p = pair c d has_c has_d (omega arith) in
-      not_over wall k is_wall p.right d p.has_right has_d (omega (arith, p.right_column)) beyond
+  not_over wall (suc k) is_wall c d has_c has_d here beyond = search (rules, (pair c d has_c has_d), (not_over wall k is_wall))
 
   pub no_cells_on_both_sides : (wall : ℕ) → IsWall F rows wall → (c d : Cell) → is_among part.cells c ≡ true → is_among part.cells d ≡ true → column_of c < wall → wall ≤ column_of d → ⊥
   no_cells_on_both_sides wall is_wall c d has_c has_d before behind = not_over wall (wall - 1 - column_of c) is_wall c d has_c has_d (omega arith) behind
@@ -127,12 +120,4 @@ module _ (F : Field) (rows : ℕ) (part : Part) (is : IsGeneralized part) (empty
   pub together : (first last : ℕ) → first ≤ last → IsWall F rows first → IsWall F rows (last + 1) → (c d : Cell) → is_among part.cells c ≡ true → is_among part.cells d ≡ true →
       in_columns first (last + 1 - first) c ≡ true → in_columns first (last + 1 - first) d ≡ true
   together first last order left right c d has_c has_d inside =
-      search (rules, and_parts, leb-true, ltb-true, and_from, le-leb, cases_lt, lt-ltb, from_left, from_right)
-    where
-      from_left : (column_of d < first) ⊎ (first ≤ column_of d) → first ≤ column_of c → first ≤ column_of d
-      from_left (inr inside) low = inside
-      from_left (inl outside) low = absurd (no_cells_on_both_sides first left d c has_d has_c outside low)
-
-      from_right : (last < column_of d) ⊎ (column_of d ≤ last) → column_of c ≤ last → column_of d ≤ last
-      from_right (inr inside) high = inside
-      from_right (inl outside) high = absurd (no_cells_on_both_sides (last + 1) right c d has_c has_d (omega arith) (omega arith))
+      search (rules, and_parts, leb-true, ltb-true, and_from, le-leb, cases_lt, lt-ltb, (no_cells_on_both_sides first left d c has_d has_c), (no_cells_on_both_sides (last + 1) right c d has_c has_d))

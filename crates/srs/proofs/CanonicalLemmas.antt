@@ -1,6 +1,5 @@
 -- The canonical placement: that there is one with the same cells, which one it is, and that it is the only one.
-use Rattle.std.proofs.Common.{◌≡◌, ℕ, ◌<◌, ◌≤◌, true, ltb-true, lt-ltb, eqb-true, pos, negsuc, refl, ap, subst, inl, inr, arith, rules}
-use Rattle.std.specs.Prelude.{nat_abs}
+use Rattle.std.proofs.Common.{◌≡◌, ℕ, ◌<◌, ◌≤◌, true, ltb-true, lt-ltb, eqb-true, pos, negsuc, refl, subst, rules}
 use Rattle.std.proofs.lemmas.Bool.{cases_Bool, cases_lt, leb-true}
 use Rattle.std.proofs.lemmas.List.Folds.{list_all-map}
 use Rattle.srs.specs.declared.piece.Piece.{Piece}
@@ -17,9 +16,7 @@ use Rattle.srs.proofs.ShapeLemmas.{canonical_earlier, canonical_move_in_shape, c
 
 -- the canonical rotation, with its pivot moved, has the same cells
 pub canonical_cells : (piece : Piece) (rotation : Rotation) (pivot : Cell) → SameCells (cells_at piece (canonical_rotation piece rotation) (moved pivot (canonical_move piece rotation))) (cells_at piece rotation pivot)
-canonical_cells p r c =
-    subst (λ cells. SameCells cells (cells_at p r c)) (map-moved-moved c (canonical_move p r) (shape p (canonical_rotation p r)))
-    (same_cells-moved c _ _ (canonical_shape p r))
+canonical_cells p r c = search (rules, (map-moved-moved c (canonical_move p r) (shape p (canonical_rotation p r))), (same_cells-moved c), (canonical_shape p r))
 
 -- a placement whose rotation the test takes is canonical
 pub IsCanonical-from_test : (s : Placement) → is_canonical s ≡ true → IsCanonical s
@@ -27,12 +24,8 @@ IsCanonical-from_test s own = search (rules, apart_differ, pivot_in_shape, rotat
 
 -- a canonical placement has a rotation that the test takes
 pub is_canonical-from : (s : Placement) → IsCanonical s → is_canonical s ≡ true
-is_canonical-from s canonical = elim (cases_Bool (is_canonical s)) [
-  | inl own ↦ own
-  | inr other ↦
-      absurd (canonical.earliest (canonical_rotation s.piece s.rotation) (moved (pivot_of s) (canonical_move s.piece s.rotation))
-      (ltb-true _ _ (canonical_earlier s.piece s.rotation other)) (canonical_cells s.piece s.rotation (pivot_of s)))
-]
+is_canonical-from s canonical =
+    search (rules, (cases_Bool (is_canonical s)), (canonical.earliest (canonical_rotation s.piece s.rotation) (moved (pivot_of s) (canonical_move s.piece s.rotation))), ltb-true, (canonical_earlier s.piece s.rotation), (canonical_cells s.piece s.rotation (pivot_of s)))
 
 -- two placements with the same cells are of one piece
 pub same_cells-piece : (s t : Placement) → HasSameCells s t → s.piece ≡ t.piece
@@ -79,10 +72,7 @@ pub record PivotInside (s : Placement) : Type 0 where
 
 pub pivot_inside : (s : Placement) → is_inside_of s ≡ true → PivotInside s
 pivot_inside s inside =
-    let lies = in_well-place (pivot_of s) (subst (λ c. in_well c ≡ true) (moved-origin (pivot_of s)) (inside_cell s origin inside (pivot_in_shape s.piece s.rotation))) in
-    let x : s.x ≡ lies.x = ap (λ c. nat_abs c.0) lies.is in
-    let y : s.y ≡ lies.y = ap (λ c. nat_abs c.1) lies.is in
-    record { in_columns = omega arith; in_rows = omega arith }
+    search (rules, (in_well-place (pivot_of s) (subst (λ c. in_well c ≡ true) (moved-origin (pivot_of s)) (inside_cell s origin inside (pivot_in_shape s.piece s.rotation)))))
 
 -- so does the pivot of the canonical placement
 pub canonical_pivot : (s : Placement) → is_inside_of s ≡ true → LiesAt (moved (pivot_of s) (canonical_move s.piece s.rotation))

@@ -1,5 +1,5 @@
 -- Cells and sets of cells: tests that decide, and moves of whole sets.
-use Rattle.std.proofs.Common.{◌≡◌, Bool, true, not, ◌&&◌, ◌||◌, Decides, ℤ, pos, ◌+ℤ◌, ◌-ℤ◌, List, [], ◌∷◌, map, refl, sym, ap, subst, ◌∙◌, arith, rules}
+use Rattle.std.proofs.Common.{◌≡◌, Bool, true, not, ◌&&◌, ◌||◌, Decides, ℤ, pos, ◌+ℤ◌, ◌-ℤ◌, List, [], ◌∷◌, map, refl, sym, ap, ◌∙◌, arith, rules}
 use Rattle.std.specs.List.{list_all}
 use Rattle.std.specs.Ordering.{int_eq}
 use Rattle.std.specs.Bool.{one_answer}
@@ -110,16 +110,8 @@ less-moved-other c d x =
 -- where two moved sets are the same, what lies between the two moves takes the one set into the other
 pub fits-between : (xs ys : List Cell) (c d : Cell) → SameCells (map (moved c) xs) (map (moved d) ys) → fits xs ys (less c d) ≡ true
 unfolding fits
-fits-between xs ys c d same = list_all-from_is_among (λ x. is_among ys (moved (less c d) x)) xs each
-  where
-    each : (x : Cell) → is_among xs x ≡ true → is_among ys (moved (less c d) x) ≡ true
-    each x has =
-        ap (is_among ys) (sym (less-moved-other c d x))
-        ∙ sym (is_among-moved d ys (moved c x))
-        ∙ sym (same.same (moved c x))
-        ∙ is_among-moved c xs (moved c x)
-        ∙ ap (is_among xs) (less-moved c x)
-        ∙ has
+fits-between xs ys c d same =
+    search (rules, (list_all-from_is_among (λ x. is_among ys (moved (less c d) x)) xs), (less-moved-other c d), (is_among-moved d ys), same.same, (is_among-moved c xs), (less-moved c))
 
 -- no move to a cell of the second list takes the first list into it
 unfoldable pub is_apart : List Cell → List Cell → Bool
@@ -155,7 +147,4 @@ is_still xs = list_all (λ move. not (fits xs xs move) || cell_eq move origin) x
 pub still_same : (xs : List Cell) (c d : Cell) → is_among xs origin ≡ true → is_still xs ≡ true → SameCells (map (moved c) xs) (map (moved d) xs) → c ≡ d
 unfolding is_still
 still_same xs c d has still same =
-    let fit = fits-between xs xs c d same in
-    let test = is_among-all (λ move. not (fits xs xs move) || cell_eq move origin) xs (less c d) still (between_in xs xs c d has same) in
-    let none : cell_eq (less c d) origin ≡ true = subst (λ b. (not b || cell_eq (less c d) origin) ≡ true) fit test in
-    sym (moved-less c d) ∙ ap (moved d) ((cell_eq-decides (less c d) origin).0 none) ∙ moved-origin d
+    search (rules, (is_among-all (λ move. not (fits xs xs move) || cell_eq move origin) xs (less c d) still (between_in xs xs c d has same)), (fits-between xs xs c d same), (moved-less c d), (cell_eq-decides (less c d) origin), (moved-origin d))

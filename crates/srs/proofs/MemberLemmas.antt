@@ -83,10 +83,7 @@ module _ {A : Type 0} where
   -- what is found is in the list and passes
   pub find-Contains : (test : A → Bool) (xs : List A) (y : A) → find test xs ≡ Some y → Contains xs y × (test y ≡ true)
   find-Contains test [] y e = cc
-  find-Contains test (x ∷ xs) y e = elim (cases_Bool (test x)) [
-    | inl passes ↦ search (rules, some_same)
-    | inr fails ↦ let found = find-Contains test xs y (sym (find-false test x xs fails) ∙ e) in (Contains-there x xs y found.0, found.1)
-  ]
+  find-Contains test (x ∷ xs) y e = search (rules, (cases_Bool (test x)), some_same, (Contains-there x xs y), (find-Contains test xs y), (find-false test x xs))
 
 -- what lists joined, a list mapped and a range contain
 module _ {K A : Type 0} (f : K → List A) where
@@ -119,10 +116,8 @@ module _ {K A : Type 0} (f : K → A) where
 
 pub Contains-range : (a n k : ℕ) → a ≤ k → k < a + n → Contains (range_with_len a n) k
 Contains-range a zero k low high = absurd (omega arith)
-Contains-range a (suc n) k low high = elim (cases_lt a k) [
-  | inl above ↦ Contains-there a (range_with_len (a + 1) n) k (Contains-range (a + 1) n k (omega arith) (omega arith))
-  | inr first ↦ let here : a ≡ k = omega arith in subst (λ i. Contains (a ∷ range_with_len (a + 1) n) i) here (Contains-here a (range_with_len (a + 1) n))
-]
+Contains-range a (suc n) k low high =
+    search (rules, (cases_lt a k), (Contains-there a (range_with_len (a + 1) n) k), (Contains-range (a + 1) n k), (Contains-here a (range_with_len (a + 1) n)))
 
 pub range-from : (a n k : ℕ) → Contains (range_with_len a n) k → (a ≤ k) × (k < a + n)
 range-from a zero k among = absurd (Contains-none k among)

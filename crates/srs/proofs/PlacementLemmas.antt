@@ -45,11 +45,7 @@ earlier_column p r y j k e = λ i. ordering_then (tied (piece_code p) i) (orderi
 
 earlier_row : (p : Piece) (r : Rotation) (j k : ℕ) → nat_cmp j k ≡ Less → (s t : Placement) → Contains (row_of p r j) s → Contains (row_of p r k) t → placement_cmp s t ≡ Less
 earlier_row p r j k e s t in_j in_k =
-    let x = Contains-from_map (state p r j) (range_with_len 0 10) s in_j in
-    let y = Contains-from_map (state p r k) (range_with_len 0 10) t in_k in
-    let less : placement_cmp (state p r j x.0) (state p r k y.0) ≡ Less =
-    λ i. ordering_then (tied (piece_code p) i) (ordering_then (tied (rotation_place r) i) (ordering_then (e i) (nat_cmp x.0 y.0))) in
-    subst (λ s. placement_cmp s t ≡ Less) x.2 (subst (λ t. placement_cmp (state p r j x.0) t ≡ Less) y.2 less)
+    search (rules, (Contains-from_map (state p r j) (range_with_len 0 10) s in_j), (Contains-from_map (state p r k) (range_with_len 0 10) t in_k), (tied (piece_code p)), (tied (rotation_place r)))
 
 earlier_rotation : (p : Piece) (q r : Rotation) → by_place q r ≡ Less → (s t : Placement) → Contains (rows_of p q) s → Contains (rows_of p r) t → placement_cmp s t ≡ Less
 earlier_rotation p q r e s t in_q in_r =
@@ -66,13 +62,8 @@ unfolding IsStrictlySortedBy
 rotations_rise = ((refl, (refl, (refl, tt))), ((refl, (refl, tt)), ((refl, tt), (tt, tt))))
 
 pub placements_by_pivot-rising : (p : Piece) → IsStrictlySortedBy placement_cmp (placements_by_pivot p)
-placements_by_pivot-rising p = rising-flat_map by_place placement_cmp (rows_of p) all_rotations rotations_rise rows (earlier_rotation p)
-  where
-    row : (r : Rotation) (y : ℕ) → IsStrictlySortedBy placement_cmp (row_of p r y)
-    row r y = rising-map nat_cmp placement_cmp (state p r y) (range_with_len 0 10) (rising-range 0 10) (earlier_column p r y)
-
-    rows : (r : Rotation) → IsStrictlySortedBy placement_cmp (rows_of p r)
-    rows r = rising-flat_map nat_cmp placement_cmp (row_of p r) (range_with_len 0 23) (rising-range 0 23) (row r) (earlier_row p r)
+placements_by_pivot-rising p =
+    search (rules, (rising-flat_map by_place placement_cmp (rows_of p) all_rotations rotations_rise), (earlier_rotation p), (rising-map nat_cmp placement_cmp), (rising-range 0 10), (earlier_column p), (rising-flat_map nat_cmp placement_cmp), (rising-range 0 23), (earlier_row p))
 
 -- each rotation is among all
 in_all_rotations : (r : Rotation) → Contains all_rotations r

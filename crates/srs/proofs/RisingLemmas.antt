@@ -41,10 +41,7 @@ rising-append {A = A} cmp (x ∷ xs) ys first second before =
     search (rules, rising-cons, rising-rest, Contains-there, each, (rising-append cmp xs ys (rising-rest cmp x xs first) second (λ z y among there. before z y (Contains-there x xs z among) there)))
   where
     each : (z : A) → Contains (xs ++ ys) z → cmp x z ≡ Less
-    each z among = elim (Contains-append_cases xs ys z among) [
-      | inl front ↦ rising-first cmp x xs first z front
-      | inr back ↦ before x z (Contains-here x xs) back
-    ]
+    each z among = search (rules, (Contains-append_cases xs ys z among), (rising-first cmp x xs first z), (Contains-here x xs))
 
 -- lists joined in the order of their keys, a list mapped in order, and a range rise
 pub rising-flat_map : {K A : Type 0} (key_cmp : K → K → Ordering) (cmp : A → A → Ordering) (f : K → List A) (ks : List K) → IsStrictlySortedBy key_cmp ks → ((k : K) → IsStrictlySortedBy cmp (f k)) → ((j k : K) → key_cmp j k ≡ Less → (x y : A) → Contains (f j) x → Contains (f k) y → cmp x y ≡ Less) → IsStrictlySortedBy cmp (flat_map f ks)
@@ -89,23 +86,12 @@ module _ {A : Type 0} (cmp : A → A → Ordering) (total : IsTotalOrder cmp) wh
   later_next bound x xs found under next = search (rules, Contains-cases, Contains-there)
 
   first_next : (bound : Option A) (x : A) (xs : List A) → IsStrictlySortedBy cmp (x ∷ xs) → is_above cmp bound x ≡ true → IsLeastAbove cmp (Contains (x ∷ xs)) bound x
-  first_next bound x xs rising above = record {
-    member = Contains-here x xs;
-    above = above;
-    least = λ y among _. elim (Contains-cases x xs y among) [
-      | inl here ↦ subst (λ z. cmp z x ≢ Less) here (not_itself x)
-      | inr there ↦ not_both_ways x y (rising-first cmp x xs rising y there)
-    ];
-  }
+  first_next bound x xs rising above = search (rules, (Contains-here x xs), (Contains-cases x xs), (not_itself x), (not_both_ways x), (rising-first cmp x xs rising))
 
   pub find-next : (bound : Option A) (xs : List A) → IsStrictlySortedBy cmp xs → IsNextAbove cmp (Contains xs) bound (find (is_above cmp bound) xs)
   find-next bound [] rising = record { none = λ y among above. Contains-none y among }
-  find-next bound (x ∷ xs) rising = elim (cases_Bool (is_above cmp bound x)) [
-    | inl above ↦ subst (IsNextAbove cmp (Contains (x ∷ xs)) bound) (sym (find-true (is_above cmp bound) x xs above)) (first_next bound x xs rising above)
-    | inr under ↦
-        subst (IsNextAbove cmp (Contains (x ∷ xs)) bound) (sym (find-false (is_above cmp bound) x xs under))
-        (later_next bound x xs (find (is_above cmp bound) xs) under (find-next bound xs (rising-rest cmp x xs rising)))
-  ]
+  find-next bound (x ∷ xs) rising =
+      search (rules, (cases_Bool (is_above cmp bound x)), (find-true (is_above cmp bound) x xs), (first_next bound x xs rising), (find-false (is_above cmp bound) x xs), (later_next bound x xs (find (is_above cmp bound) xs)), (find-next bound xs (rising-rest cmp x xs rising)))
 
   -- of some things the next is determined
   pub IsNextAbove-unique : IsAntisymmetric cmp → (IsMember : A → Type 0) (bound : Option A) (a b : Option A) → IsNextAbove cmp IsMember bound a → IsNextAbove cmp IsMember bound b → a ≡ b
@@ -113,10 +99,7 @@ module _ {A : Type 0} (cmp : A → A → Ordering) (total : IsTotalOrder cmp) wh
 
   -- the rising list of some things, searched, gives the next of them
   pub find-next_of : (IsMember : A → Type 0) (bound : Option A) (xs : List A) → IsRisingListOf cmp IsMember xs → IsNextAbove cmp IsMember bound (find (is_above cmp bound) xs)
-  find-next_of M bound xs list = over (find (is_above cmp bound) xs) (find-next bound xs list.rising)
-    where
-      over : (found : Option A) → IsNextAbove cmp (Contains xs) bound found → IsNextAbove cmp M bound found
-      over found next = search rules
+  find-next_of M bound xs list = search (rules, (find-next bound xs list.rising))
 
   -- what is above the bound is the next, and what is above the next
   pub filter_above-next : (bound : Option A) (xs : List A) (a : A) → IsStrictlySortedBy cmp xs → find (is_above cmp bound) xs ≡ Some a → filter (is_above cmp bound) xs ≡ a ∷ filter (is_above cmp (Some a)) xs
@@ -148,13 +131,7 @@ module _ {A : Type 0} (cmp : A → A → Ordering) (total : IsTotalOrder cmp) wh
       search (rules, rising-rest, heads, forth, back, (rising-same xs ys (rising-rest cmp x xs first) (rising-rest cmp y ys second)))
     where
       heads : x ≡ y
-      heads = elim (Contains-cases y ys x ((alike x).0 (Contains-here x xs))) [
-        | inl here ↦ sym here
-        | inr there ↦ elim (Contains-cases x xs y ((alike y).1 (Contains-here y ys))) [
-          | inl here ↦ here
-          | inr there' ↦ absurd (not_both_ways x y (rising-first cmp x xs first y there') (rising-first cmp y ys second x there))
-        ]
-      ]
+      heads = search (rules, (Contains-cases y ys x ((alike x).0 (Contains-here x xs))), (Contains-cases x xs y ((alike y).1 (Contains-here y ys))), (not_both_ways x y), (rising-first cmp x xs first y), (rising-first cmp y ys second x))
 
       forth : (z : A) → Contains xs z → Contains ys z
       forth z among = elim (Contains-cases y ys z ((alike z).0 (Contains-there x xs z among))) [

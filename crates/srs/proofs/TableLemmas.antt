@@ -98,20 +98,9 @@ same_tests s t e =
 
 same_all_turns : (t u : Turns) → turns_table t ≡ turns_table u → t ≡ u
 same_all_turns t u e =
-    let spawn = same_tests t.spawn u.spawn (ap (λ (f : Rotation → List Cell). f Spawn) e) in
-    let right = same_tests t.right u.right (ap (λ (f : Rotation → List Cell). f Right) e) in
-    let reverse = same_tests t.reverse u.reverse (ap (λ (f : Rotation → List Cell). f Reverse) e) in
-    let left = same_tests t.left u.left (ap (λ (f : Rotation → List Cell). f Left) e) in
-    λ n. record { spawn = spawn n; right = right n; reverse = reverse n; left = left n }
+    search (rules, (same_tests t.spawn u.spawn (ap (λ (f : Rotation → List Cell). f Spawn) e)), (same_tests t.right u.right (ap (λ (f : Rotation → List Cell). f Right) e)), (same_tests t.reverse u.reverse (ap (λ (f : Rotation → List Cell). f Reverse) e)), (same_tests t.left u.left (ap (λ (f : Rotation → List Cell). f Left) e)))
 
 pub table_of-injective : (r q : Rules) → table_of r ≡ table_of q → r ≡ q
 unfolding table_of
 table_of-injective r q e =
-    let i = same_all_turns r.i q.i (ap (λ (f : Table). f I) e) in
-    let l = same_all_turns r.l q.l (ap (λ (f : Table). f L) e) in
-    let o = same_all_turns r.o q.o (ap (λ (f : Table). f O) e) in
-    let z = same_all_turns r.z q.z (ap (λ (f : Table). f Z) e) in
-    let t = same_all_turns r.t q.t (ap (λ (f : Table). f T) e) in
-    let j = same_all_turns r.j q.j (ap (λ (f : Table). f J) e) in
-    let s = same_all_turns r.s q.s (ap (λ (f : Table). f S) e) in
-    λ n. record { i = i n; l = l n; o = o n; z = z n; t = t n; j = j n; s = s n }
+    search (rules, (same_all_turns r.i q.i (ap (λ (f : Table). f I) e)), (same_all_turns r.l q.l (ap (λ (f : Table). f L) e)), (same_all_turns r.o q.o (ap (λ (f : Table). f O) e)), (same_all_turns r.z q.z (ap (λ (f : Table). f Z) e)), (same_all_turns r.t q.t (ap (λ (f : Table). f T) e)), (same_all_turns r.j q.j (ap (λ (f : Table). f J) e)), (same_all_turns r.s q.s (ap (λ (f : Table). f S) e)))

@@ -1,5 +1,5 @@
 -- The flood's loop: what holds while it runs, how it comes to an end, and what holds then.
-use Rattle.std.proofs.Common.{◌≡◌, ◌≢◌, ℕ, ◌<◌, true, sym, ap, subst, ◌∙◌, inl, inr, ◌⊎◌, rules}
+use Rattle.std.proofs.Common.{◌≡◌, ◌≢◌, ℕ, ◌<◌, true, sym, subst, inl, inr, ◌⊎◌, rules}
 use Rattle.std.proofs.lemmas.Bool.{false≢true, cases_lt}
 use Rattle.lane_board.specs.Field.{Field, empty_field}
 use Rattle.lane_board.specs.CellCount.{cell_count}
@@ -66,8 +66,7 @@ falls N ground r start done reached next before is lies differ =
 
 -- the same, with what the code finds given by equations
 pub goes_on_by : (ground : Ground) (r : Rotation) (start done reached next after : States) (F : Field) → F ≡ next r → after ≡ states_with done r F → Progress ground start done reached → IsSettled ground r reached next → Progress ground start after next
-goes_on_by ground r start done reached next after F f e before is =
-    subst (λ done. Progress ground start done next) (sym (e ∙ ap (states_with done r) f)) (goes_on ground r start done reached next before is)
+goes_on_by ground r start done reached next after F f e before is = search (rules, (goes_on ground r start done reached next before is))
 
 pub falls_by : (N : ℕ) (ground : Ground) (r : Rotation) (start done reached next after : States) (F : Field) → F ≡ next r → after ≡ states_with done r F → Progress ground start done reached → IsSettled ground r reached next → LiesWithin (reached r) N → done r ≢ reached r → missing N after < missing N done
 falls_by N ground r start done reached next after F f e before is lies differ = search (rules, falls)

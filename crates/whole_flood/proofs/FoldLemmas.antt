@@ -1,14 +1,14 @@
 -- Which placements resting states are folded into.
-use Rattle.std.proofs.Common.{◌≡◌, ℕ, ◌<◌, true, pos, sym, ap, subst, ◌∙◌, inl, inr, ◌⊎◌, rules}
+use Rattle.std.proofs.Common.{◌≡◌, ℕ, ◌<◌, true, pos, inl, inr, ◌⊎◌, rules}
 use Rattle.std.proofs.lemmas.Bool.{or_cases, or_left, or_right, false≢true}
-use Rattle.lane_board.specs.Field.{Field, empty_field, union, moved_within}
+use Rattle.lane_board.specs.Field.{empty_field, union}
 use Rattle.srs.specs.declared.piece.Piece.{Piece}
 use Rattle.srs.specs.declared.rotation.Rotation.{Rotation}
 use Rattle.srs.specs.declared.rotation.Rotation.TheVariants.{Spawn, Right, Reverse, Left}
 use Rattle.srs.specs.declared.placement.Placement.{Placement}
 use Rattle.srs.specs.Cells.{moved, pivot_of}
 use Rattle.srs.specs.Canonical.{canonical_rotation, canonical_move}
-use Rattle.place_sets.specs.States.{States, has_state, states_with, no_states}
+use Rattle.place_sets.specs.States.{States, has_state, no_states}
 use Rattle.whole_flood.specs.Folded.{folded_with, folded}
 use Rattle.place_sets.proofs.CallerLemmas.{moved_from, moved_to, with_here, with_cases, includes_with}
 
@@ -32,11 +32,7 @@ module _ (piece : Piece) (N : ℕ) (resting : States) where
   folded-adds : (r : Rotation) (S : States) (q : Placement) → q.x < 10 → q.y < N → FoldsTo piece resting r q → has_state (folded_with piece N resting r S) q ≡ true
   unfolding folded_with union has_state
   folded-adds r S q column row way =
-      let to : Rotation = canonical_rotation piece r in
-      let new : Field = union (S to) (moved_within (resting r) N (canonical_move piece r).0 (canonical_move piece r).1) in
-      subst (λ s. states_with S to new s q.x q.y ≡ true) (sym way.turn)
-      (ap (λ (F : Field). F q.x q.y) (with_here S to new)
-      ∙ or_right (S to q.x q.y) _ (moved_to (resting r) N (canonical_move piece r) way.x way.y q.x q.y way.rests way.pivot column row))
+      search (rules, (with_here S), or_right, (moved_to (resting r) N (canonical_move piece r) way.x way.y q.x q.y way.rests way.pivot column row))
 
   nothing : (q : Placement) → has_state no_states q ≡ true → ⊥
   unfolding has_state empty_field

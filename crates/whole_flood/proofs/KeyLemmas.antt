@@ -77,13 +77,7 @@ module _ (table : Table) (F : Field) (mode : DropMode) (piece : Piece) (free : S
 
   pub reached_by_keys : (s : Placement) → IsReached ground (started free) s → KeysLead s
   unfolding state_after
-  reached_by_keys s way = record {
-    keys = way.keys;
-    allowed = way.allowed;
-    reached =
-        ap (λ (o : Option Placement). led (step_of table F) o way.keys) (starts_at F piece free way.from is way.kind way.starts)
-        ∙ sym (led_same table F free piece is way.keys way.from way.kind) ∙ way.leads;
-  }
+  reached_by_keys s way = search (rules, (starts_at F piece free way.from is way.kind way.starts), (led_same table F free piece is way.keys way.from way.kind))
 
   -- and where keys lead is reached
   pub keys_reach : (s : Placement) (keys : List Key) → All (λ key. IsTrue (allows mode key)) keys → state_after table F piece keys ≡ Some s → IsReached ground (started free) s

@@ -1,5 +1,5 @@
 -- A piece is free exactly at the pivots from which each offset leads to an open cell.
-use Rattle.std.proofs.Common.{◌≡◌, ℕ, ◌<◌, true, pos, negsuc, List, [], ◌∷◌, map, refl, sym, ap, subst, ◌∙◌, rules}
+use Rattle.std.proofs.Common.{◌≡◌, ℕ, ◌<◌, true, pos, negsuc, List, [], ◌∷◌, map, refl, sym, ap, ◌∙◌, rules}
 use Rattle.std.specs.Prelude.{neg_ℤ}
 use Rattle.std.specs.List.{list_all}
 use Rattle.std.proofs.lemmas.Bool.{and_parts, and_from, lt-ltb, ltb-true, leb-true, le-leb, false≢true, false_from_ne_true}
@@ -37,21 +37,13 @@ module _ (F : Field) where
   unfolding opened_at opened intersection
   all_open N [] S x y held = (held, refl)
   all_open N (offset ∷ offsets) S x y held =
-      let later = all_open N offsets (opened blank N offset S) x y held in
-      let parts = and_parts (S x y) _ later.0 in
-      let way = moved_from blank N (neg_ℤ offset.0, neg_ℤ offset.1) x y parts.1 in
-      let there = moved_forth way.from_x way.from_y x y offset way.there in
-      (parts.0, and_from _ _ (subst (λ c. is_open F c ≡ true) (sym there) (open_from_blank way.from_x way.from_y way.filled)) later.1)
+      search (rules, (moved_from blank N (neg_ℤ offset.0, neg_ℤ offset.1) x y), (and_parts (S x y)), (all_open N offsets (opened blank N offset S) x y held), and_from, moved_forth, open_from_blank)
 
   opens_all : (N : ℕ) (offsets : List Cell) (S : Field) (x y : ℕ) → S x y ≡ true → x < 10 → y < N → list_all (is_open F) (map (moved (pos x, pos y)) offsets) ≡ true → opened_at blank N offsets S x y ≡ true
   unfolding opened_at opened intersection
   opens_all N [] S x y held column row all = held
   opens_all N (offset ∷ offsets) S x y held column row all =
-      let parts = and_parts (is_open F (moved (pos x, pos y) offset)) _ all in
-      let at = blank_from_open (moved (pos x, pos y) offset) parts.0 in
-      opens_all N offsets (opened blank N offset S) x y
-      (and_from _ _ held (moved_to blank N (neg_ℤ offset.0, neg_ℤ offset.1) at.x at.y x y at.filled (moved_back x y at.x at.y offset at.is) column row))
-      column row parts.1
+      search (rules, (blank_from_open (moved (pos x, pos y) offset)), (and_parts (is_open F (moved (pos x, pos y) offset))), (opens_all N offsets (opened blank N offset S) x y), and_from, (moved_to blank N (neg_ℤ offset.0, neg_ℤ offset.1)), (moved_back x y))
 
   free_exact : (piece : Piece) (r : Rotation) (G : Field) → G ≡ opened_at blank 24 (shape piece r) blank → (pivot : Cell) → is_free_at F piece r pivot ≡ has_cell G pivot.0 pivot.1
   unfolding has_cell is_free_at
@@ -61,12 +53,7 @@ module _ (F : Field) where
       back held = (all_open 24 (shape piece r) blank x y (sym (ap (λ (G : Field). G x y) e) ∙ held)).1
 
       there : is_free_at F piece r (pos x, pos y) ≡ true → G x y ≡ true
-      there free_here =
-          let at = blank_from_open (pos x, pos y) (free_pivot_open F piece r (pos x, pos y) free_here) in
-          let filled = subst (λ x. blank x at.y ≡ true) (sym (same_column x y at.x at.y at.is)) at.filled in
-          let here = subst (λ y. blank x y ≡ true) (sym (same_row x y at.x at.y at.is)) filled in
-          let inside = blank_inside x y here in
-          ap (λ (G : Field). G x y) e ∙ opens_all 24 (shape piece r) blank x y here inside.0 inside.1 free_here
+      there free_here = search (rules, (blank_from_open (pos x, pos y)), (free_pivot_open F piece r (pos x, pos y)), (same_column x y), (same_row x y), (opens_all 24 (shape piece r) blank x y), (blank_inside x y))
   free_exact piece r G e (pos x, negsuc y) = search (rules, false_from_ne_true, free_pivot)
   free_exact piece r G e (negsuc x, pos y) = search (rules, false_from_ne_true, free_pivot)
   free_exact piece r G e (negsuc x, negsuc y) = search (rules, false_from_ne_true, free_pivot)

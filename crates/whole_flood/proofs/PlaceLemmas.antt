@@ -1,5 +1,5 @@
 -- The folded resting states of a flood from the spawn are the places.
-use Rattle.std.proofs.Common.{◌≡◌, ℕ, ◌↔◌, true, pos, Some, List, refl, sym, ap, subst, ◌∙◌, arith}
+use Rattle.std.proofs.Common.{◌≡◌, ℕ, ◌↔◌, true, pos, Some, List, refl, sym, ap, subst, ◌∙◌, arith, rules}
 use Rattle.lane_board.specs.Field.{Field, has_cell}
 use Rattle.srs.specs.declared.piece.Piece.{Piece}
 use Rattle.srs.specs.declared.rotation.Rotation.{Rotation}
@@ -100,9 +100,7 @@ module _ (table : Table) (F : Field) (mode : DropMode) (piece : Piece) (free rea
       from_rest s.rotation s.x (rest_from F piece s.rotation s.x s.y) there (subst (λ rest. HasSameCells rest q) rest_is led.same_cells) place.canonical
     where
       from_rest : (r : Rotation) (x : ℕ) (rest : Placement) → RestsThere 24 (free r) (reached r) (reached_free r) (R r) (lies r) (rested.each r) F piece r (free_exact r) x rest → HasSameCells rest q → IsCanonical q → has_state (folded piece 24 R) q ≡ true
-      from_rest r x rest there same canonical =
-          let is_t : rest ≡ state_of piece r x rest.y = λ i. record { piece = there.kind i; rotation = there.turn i; x = there.column i; y = rest.y } in
-          folds r x rest.y q there.held there.is_free canonical (subst (λ rest. HasSameCells rest q) is_t same)
+      from_rest r x rest there same canonical = search (rules, there.kind, there.turn, there.column, folds)
 
   pub places_exact : (q : Placement) → q.piece ≡ piece → (has_state (folded piece 24 R) q ≡ true) ↔ IsPlace table F mode q
   places_exact q kind = (place_from q kind, place_to q kind)

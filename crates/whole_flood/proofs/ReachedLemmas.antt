@@ -1,5 +1,5 @@
 -- What is reached from a start set, and that a set which each key leads back into has all of it.
-use Rattle.std.proofs.Common.{◌≡◌, ℕ, suc, true, Option, Some, List, [], ◌∷◌, ◌++◌, refl, sym, ap, subst, ◌∙◌, inl, inr, arith, rules}
+use Rattle.std.proofs.Common.{◌≡◌, ℕ, suc, true, Option, Some, List, [], ◌∷◌, ◌++◌, refl, sym, ap, subst, ◌∙◌, arith, rules}
 use Rattle.std.specs.Prelude.{IsTrue}
 use Rattle.std.specs.List.{All}
 use Rattle.std.proofs.lemmas.Bool.{cases_Bool, cond-true, cond-false}
@@ -67,10 +67,8 @@ state_at-lands free piece rotation pivot t at e = search (rules, some_same)
 pub first_in-lands : (free : States) (piece : Piece) (rotation : Rotation) (pivots : List Cell) (t : Placement) → first_in free piece rotation pivots ≡ Some t → LandsAt free piece rotation t
 unfolding first_in
 first_in-lands free piece rotation [] t e = absurd (not_some e)
-first_in-lands free piece rotation (pivot ∷ pivots) t e = elim (cases_Bool (has_pivot free rotation pivot)) [
-  | inl has ↦ state_at-lands free piece rotation pivot t (pivot_at free rotation pivot has) (sym (cond-true _ (state_at piece rotation pivot) (first_in free piece rotation pivots) has) ∙ e)
-  | inr none ↦ first_in-lands free piece rotation pivots t (sym (cond-false _ (state_at piece rotation pivot) (first_in free piece rotation pivots) none) ∙ e)
-]
+first_in-lands free piece rotation (pivot ∷ pivots) t e =
+    search (rules, (cases_Bool (has_pivot free rotation pivot)), (state_at-lands free piece rotation pivot t), (pivot_at free rotation pivot), cond-true, (first_in-lands free piece rotation pivots t), cond-false)
 
 pub step_in-kind : (table : Table) (free : States) (s : Placement) (key : Key) (t : Placement) → step_in table free s key ≡ Some t → t.piece ≡ s.piece
 unfolding shifted_in turned_in

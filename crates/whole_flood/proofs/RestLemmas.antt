@@ -61,14 +61,7 @@ module _ (N : ℕ) (free S : Field) (within : IsWithin S free) where
   pub rested_from : (R : Field) (x y : ℕ) → LiesWithin free N → IsRested N free S R → R x y ≡ true → FallsTo free S x y × ((below : ℕ) → y ≡ suc below → free x below ≡ false)
   unfolding difference
   rested_from R x y lies is held =
-      let parts = and_parts (is.fallen x y) _ (sym (ap (λ (G : Field). G x y) is.rests) ∙ held) in
-      let fallen = subst (λ (G : Field). G x y ≡ true) is.falls.grown parts.0 in
-      let way = falls_by_rounds is.falls.rounds x y fallen in (
-        way,
-        λ below e. false_from_ne_true _ (λ open_below.
-            let here = lies.inside x y (way.through y (omega arith) way.above) in
-            both_ways _ (not-true _ parts.1) (moved_to free N (pos 0, pos 1) x below x y open_below (to_row_above x below ∙ ap (λ (y : ℕ). (pos x, pos y)) (sym e)) here.0 here.1)),
-      )
+      search (rules, (and_parts (is.fallen x y)), (falls_by_rounds is.falls.rounds x y), false_from_ne_true, (lies.inside x y), both_ways, not-true, (moved_to free N (pos 0, pos 1) x), (to_row_above x))
 
   module _ (R : Field) (lies : LiesWithin free N) (is : IsRested N free S R) (F : Field) (piece : Piece) (r : Rotation) (exact : (x y : ℕ) → is_free_at F piece r (pos x, pos y) ≡ free x y) where
     -- from a pivot to which others fall on, the rest is a resting pivot

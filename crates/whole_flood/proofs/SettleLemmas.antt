@@ -145,9 +145,4 @@ module _ (N : ℕ) (ground : Ground) (lies : (r : Rotation) → LiesWithin (grou
 pub settled_by : (N : ℕ) (ground : Ground) (lies : (r : Rotation) → LiesWithin (ground.free r) N) (r : Rotation) (S : States) (shifts : Shifts) (F B wide : Field) (S1 S2 S3 : States) →
     shifts ≡ shifts_in ground.mode → F ≡ ground.free r → B ≡ S r → IsSpread shifts N F B wide → LiesWithin wide N →
     S1 ≡ states_with S r wide → S2 ≡ turn_of N ground lies r (clockwise_of r) S1 → S3 ≡ turn_of N ground lies r (anticlockwise_of r) S2 → IsSettled ground r S S3
-settled_by N ground lies r S shifts F B wide S1 S2 S3 e f b spread within one two three =
-    let spreads : IsSpread (shifts_in ground.mode) N (ground.free r) (S r) wide =
-    subst (λ shifts. IsSpread shifts N (ground.free r) (S r) wide) e (subst (λ (F : Field). IsSpread shifts N F (S r) wide) f (subst (λ (B : Field). IsSpread shifts N F B wide) b spread)) in
-    let same : S3 ≡ third N ground lies r S wide within spreads =
-    three ∙ ap (turn_of N ground lies r (anticlockwise_of r)) (two ∙ ap (turn_of N ground lies r (clockwise_of r)) one) in
-    subst (IsSettled ground r S) (sym same) (settled N ground lies r S wide within spreads)
+settled_by N ground lies r S shifts F B wide S1 S2 S3 e f b spread within one two three = search (rules, (ground.free r), (settled N ground lies r S wide within))

@@ -1,5 +1,5 @@
 -- What spreads from reached pivots is reached by keys, and no key leads out of what has spread.
-use Rattle.std.proofs.Common.{◌≡◌, ℕ, zero, suc, true, pos, Some, None, refl, sym, ap, subst, ◌∙◌, inl, inr, ◌⊎◌, rules}
+use Rattle.std.proofs.Common.{◌≡◌, ℕ, zero, suc, true, pos, Some, refl, sym, subst, ◌∙◌, inl, inr, ◌⊎◌, rules}
 use Rattle.std.specs.Prelude.{IsTrue}
 use Rattle.std.proofs.lemmas.Bool.{cases_Bool, or_cases, or_left, or_right, cond-true, cond-false, false≢true}
 use Rattle.lane_board.specs.Field.{Field, union, moved_within}
@@ -9,7 +9,7 @@ use Rattle.srs.specs.declared.placement.Placement.{Placement}
 use Rattle.srs.specs.Cells.{Cell, minus, moved, pivot_of}
 use Rattle.srs.specs.Kick.{Table}
 use Rattle.moves.specs.declared.key.Key.{Key}
-use Rattle.moves.specs.declared.key.Key.TheVariants.{Left, Right, Down}
+use Rattle.moves.specs.declared.key.Key.TheVariants.{Down}
 use Rattle.moves.specs.declared.key.DropMode.{DropMode}
 use Rattle.moves.specs.declared.key.DropMode.TheVariants.{Soft, Hard}
 use Rattle.moves.specs.Keys.{allows}
@@ -32,16 +32,8 @@ pub record Shifted (table : Table) (mode : DropMode) (S : Field) (x y : ℕ) : T
 
 sideways-from : (table : Table) (mode : DropMode) (N : ℕ) (S : Field) (x y : ℕ) → sideways N S x y ≡ true → Shifted table mode S x y
 unfolding sideways union
-sideways-from table mode N S x y beside = elim (or_cases (moved_within S N (minus 1) (pos 0) x y) _ beside) [
-  | inl left ↦ record { key = Left; move = (minus 1, pos 0); allowed = each mode; from = moved_from S N (minus 1, pos 0) x y left; step = λ free s. refl }
-  | inr right ↦ record { key = Right; move = (pos 1, pos 0); allowed = other mode; from = moved_from S N (pos 1, pos 0) x y right; step = λ free s. refl }
-]
-  where
-    each : (mode : DropMode) → IsTrue (allows mode Left)
-    each mode = search rules
-
-    other : (mode : DropMode) → IsTrue (allows mode Right)
-    other mode = search rules
+sideways-from table mode N S x y beside =
+    search (rules, (or_cases (moved_within S N (minus 1) (pos 0) x y)), (moved_from S N (minus 1, pos 0) x y), (moved_from S N (pos 1, pos 0) x y))
 
 lower-from : (table : Table) (N : ℕ) (S : Field) (x y : ℕ) → lower N S x y ≡ true → Shifted table Soft S x y
 unfolding lower
@@ -55,8 +47,7 @@ neighbours-from table Soft N S x y beside = search (rules, or_cases, sideways-fr
 -- a free pivot to which a move leads
 shifted_to : (free : States) (piece : Piece) (rotation : Rotation) (move : Cell) (a b x y : ℕ) → moved (pos a, pos b) move ≡ (pos x, pos y) → free rotation x y ≡ true → shifted_in free (state_of piece rotation a b) move ≡ Some (state_of piece rotation x y)
 unfolding shifted_in first_in
-shifted_to free piece rotation move a b x y there is_free =
-    cond-true _ (state_at piece rotation (moved (pos a, pos b) move)) None (has_pivot-at free rotation _ x y there is_free) ∙ ap (state_at piece rotation) there
+shifted_to free piece rotation move a b x y there is_free = search (rules, cond-true, (has_pivot-at free rotation))
 
 -- what spreads from reached pivots is reached
 pub widened-reached : (ground : Ground) (start : States) (rotation : Rotation) (N : ℕ) (S : Field) → FieldReached ground start rotation S → FieldReached ground start rotation (widened (shifts_in ground.mode) N (ground.free rotation) S)

@@ -1,5 +1,5 @@
 -- A set of pivots that turns goes where each of its pivots turns to.
-use Rattle.std.proofs.Common.{◌≡◌, ℕ, true, false, ◌&&◌, pos, Some, List, [], ◌∷◌, map, sym, ap, subst, ◌∙◌, inl, inr, ◌⊎◌, rules}
+use Rattle.std.proofs.Common.{◌≡◌, ℕ, true, false, pos, Some, List, [], ◌∷◌, map, inl, ◌⊎◌, rules}
 use Rattle.std.specs.Prelude.{neg_ℤ}
 use Rattle.std.proofs.lemmas.Bool.{cases_Bool, and_parts, and_from, or_cases, or_left, or_right, not-true, not_from_false, cond-true, cond-false, both_ways, false_from_ne_true}
 use Rattle.lane_board.specs.Field.{Field, intersection, union, difference, moved_within}
@@ -7,7 +7,6 @@ use Rattle.srs.specs.declared.piece.Piece.{Piece}
 use Rattle.srs.specs.declared.rotation.Rotation.{Rotation}
 use Rattle.srs.specs.declared.placement.Placement.{Placement}
 use Rattle.srs.specs.Cells.{Cell, moved}
-use Rattle.moves.specs.Step.{state_at}
 use Rattle.moves.proofs.CallerLemmas.{not_some}
 use Rattle.place_sets.specs.States.{States, has_pivot}
 use Rattle.whole_flood.specs.Flood.{first_in}
@@ -48,9 +47,7 @@ module _ (free : States) (N : ℕ) (piece : Piece) (to : Rotation) (lies : LiesW
   -- what is left was not taken
   left_not_taken : (move : Cell) (S : Field) (x y : ℕ) → LiesWithin S N → left_by N move (kicked_to (free to) N move S) S x y ≡ true → (S x y ≡ true) × (has_pivot free to (moved (pos x, pos y) move) ≡ false)
   unfolding left_by difference
-  left_not_taken move S x y within left =
-      let parts = and_parts (S x y) _ left in
-      (parts.0, false_from_ne_true _ (λ has. both_ways _ (not-true _ parts.1) (taken_away move S x y within parts.0 has)))
+  left_not_taken move S x y within left = search (rules, (and_parts (S x y)), false_from_ne_true, both_ways, not-true, (taken_away move S x y within))
 
   -- what was not taken is left
   not_taken_left : (move : Cell) (S : Field) (x y : ℕ) → S x y ≡ true → has_pivot free to (moved (pos x, pos y) move) ≡ false → left_by N move (kicked_to (free to) N move S) S x y ≡ true
@@ -62,34 +59,8 @@ module _ (free : States) (N : ℕ) (piece : Piece) (to : Rotation) (lies : LiesW
   pub arrives : (moves : List Cell) (S before : Field) (x y : ℕ) → LiesWithin S N → turned_from (free to) N moves S before x y ≡ true → (before x y ≡ true) ⊎ Arrives S moves x y
   unfolding turned_from kicked_to intersection first_in union
   arrives [] S before x y within held = inl held
-  arrives (move ∷ moves) S before x y within held = elim (arrives moves (left_by N move (kicked_to (free to) N move S) S) (union before (kicked_to (free to) N move S)) x y (left_within move S within) held) [
-    | inl now ↦ here now
-    | inr later ↦ inr (passed later)
-  ]
-    where
-      landed : kicked_to (free to) N move S x y ≡ true → Arrives S (move ∷ moves) x y
-      landed hit =
-          let parts = and_parts (free to x y) _ hit in
-          let way = moved_from S N move x y parts.1 in
-          record {
-            from_x = way.from_x;
-            from_y = way.from_y;
-            filled = way.filled;
-            first = cond-true _ (state_at piece to (moved (pos way.from_x, pos way.from_y) move)) _ (has_pivot-at free to _ x y way.there parts.0) ∙ ap (state_at piece to) way.there;
-          }
-
-      here : union before (kicked_to (free to) N move S) x y ≡ true → (before x y ≡ true) ⊎ Arrives S (move ∷ moves) x y
-      here now = search (rules, or_cases, landed)
-
-      passed : Arrives (left_by N move (kicked_to (free to) N move S) S) moves x y → Arrives S (move ∷ moves) x y
-      passed way =
-          let parts = left_not_taken move S way.from_x way.from_y within way.filled in
-          record {
-            from_x = way.from_x;
-            from_y = way.from_y;
-            filled = parts.0;
-            first = cond-false _ (state_at piece to (moved (pos way.from_x, pos way.from_y) move)) _ parts.1 ∙ way.first;
-          }
+  arrives (move ∷ moves) S before x y within held =
+      search (rules, (arrives moves (left_by N move (kicked_to (free to) N move S) S) (union before (kicked_to (free to) N move S)) x y (left_within move S within) held), (moved_from S N move x y), (and_parts (free to x y)), cond-true, (has_pivot-at free to), or_cases, (left_not_taken move S), cond-false)
 
   -- what was reached before stays
   pub turned_keeps : (moves : List Cell) (S before : Field) (x y : ℕ) → before x y ≡ true → turned_from (free to) N moves S before x y ≡ true
@@ -102,16 +73,5 @@ module _ (free : States) (N : ℕ) (piece : Piece) (to : Rotation) (lies : LiesW
   pub reaches : (moves : List Cell) (S before : Field) (a b : ℕ) (t : Placement) → LiesWithin S N → S a b ≡ true → first_in free piece to (map (moved (pos a, pos b)) moves) ≡ Some t → turned_from (free to) N moves S before t.x t.y ≡ true
   unfolding turned_from first_in union kicked_to intersection
   reaches [] S before a b t within filled e = absurd (not_some e)
-  reaches (move ∷ moves) S before a b t within filled e = elim (cases_Bool (has_pivot free to (moved (pos a, pos b) move))) [
-    | inl has ↦ turned_keeps moves (left_by N move (kicked_to (free to) N move S) S) (union before (kicked_to (free to) N move S)) t.x t.y
-        (or_right _ _ (lands (pivot_at free to _ has) (sym (cond-true _ (state_at piece to (moved (pos a, pos b) move)) (first_in free piece to (map (moved (pos a, pos b)) moves)) has) ∙ e)))
-    | inr none ↦ reaches moves (left_by N move (kicked_to (free to) N move S) S) (union before (kicked_to (free to) N move S)) a b t (left_within move S within) (not_taken_left move S a b filled none)
-        (sym (cond-false _ (state_at piece to (moved (pos a, pos b) move)) (first_in free piece to (map (moved (pos a, pos b)) moves)) none) ∙ e)
-  ]
-    where
-      lands : PivotAt (free to) (moved (pos a, pos b) move) → state_at piece to (moved (pos a, pos b) move) ≡ Some t → kicked_to (free to) N move S t.x t.y ≡ true
-      lands at f =
-          let same : state_of piece to at.x at.y ≡ t = some_same (sym (ap (state_at piece to) at.is) ∙ f) in
-          let there = lies.inside at.x at.y at.filled in
-          subst (λ (t : Placement). (free to t.x t.y && moved_within S N move.0 move.1 t.x t.y) ≡ true) same
-          (and_from _ _ at.filled (moved_to S N move a b at.x at.y filled at.is there.0 there.1))
+  reaches (move ∷ moves) S before a b t within filled e =
+      search (rules, cases_Bool, (turned_keeps moves), or_right, (pivot_at free), cond-true, (reaches moves), (left_within move S within), (not_taken_left move S a b filled), cond-false, some_same, and_from, (moved_to S N move a b))

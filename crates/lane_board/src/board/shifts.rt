@@ -89,6 +89,7 @@ fn eight_below(rows: &[u16], at: usize, dy: i8) -> u16x8
 
 /// The eight rows before row `at`, or eight empty rows if `at` is the first.
 #[inline(always)]
+#[tactic(auto, using(crate::proofs::MovedLanes::none_before, crate::proofs::MovedLanes::eight_before))]
 fn load_before(rows: &[u16], at: usize) -> u16x8
     requires at_eight { at % 8 ≡ 0 }
     requires within { at + 8 ≤ length rows.now }

@@ -1,5 +1,5 @@
 -- Where a turn completes a solution, some frame is in use.
-use Rattle.std.proofs.Common.{◌∙◌, arith, lt-ltb, rules}
+use Rattle.std.proofs.Common.{arith, lt-ltb, rules}
 use Rattle.enumerate.proofs.Stacks.{finds-more, finds-none}
 use Rattle.enumerate.proofs.Counting.{counts-none, counts-then}
 use Rattle.enumerate.proofs.advance.advance.Goals as goal
@@ -11,14 +11,8 @@ pub loop-depth-init : goal.loop-depth-init
 loop-depth-init g c = search (rules, counts-none)
 
 pub loop-depth-preserved : goal.loop-depth-preserved
-loop-depth-preserved g c = record {
-  within = c.turn-next.ensures.within;
-  room = c.turn-next.ensures.turn.room;
-  same = c.loop-depth.invariant.same ∙ finds-none _ _ _ c.turn-next.result.1 c.if-found.false c.turn-next.ensures.turn.finds;
-  counted = omega (arith, c.loop-depth.invariant.counted, c.turn-next.ensures.turn.counted);
-  fewer = omega (arith, c.loop-depth.invariant.fewer, c.turn-next.ensures.turn.fewer);
-  noted = counts-then c.args.notes.now.floods c.loop-depth.notes.floods c.turn-next.new.notes.floods c.args.steps.now c.loop-depth.steps c.turn-next.new.steps c.loop-depth.invariant.noted c.turn-next.ensures.noted;
-}
+loop-depth-preserved g c =
+    search (rules, finds-none, (counts-then c.args.notes.now.floods c.loop-depth.notes.floods c.turn-next.new.notes.floods c.args.steps.now c.loop-depth.steps c.turn-next.new.steps c.loop-depth.invariant.noted c.turn-next.ensures.noted))
 
 pub returns-then-found-clause-noted : goal.returns-then-found-clause-noted
 returns-then-found-clause-noted g c = counts-then c.args.notes.now.floods c.loop-depth.notes.floods c.turn-next.new.notes.floods c.args.steps.now c.loop-depth.steps c.turn-next.new.steps c.loop-depth.invariant.noted c.turn-next.ensures.noted

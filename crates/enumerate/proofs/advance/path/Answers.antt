@@ -11,9 +11,4 @@ unfolding path_of
 loop-frame-init c = (c.new-sequence.ensures, omega (arith, ap length c.new-sequence.ensures))
 
 pub loop-frame-preserved : goal.loop-frame-preserved
-loop-frame-preserved c =
-    let more = path-more c.args.frames.now c.loop-frame.frame-index c.frame-item.result c.loop-frame-test.true c.frame-item.is in
-    elim c.match-frame.branch [
-      | in-Some w ↦ search rules
-      | in_default w ↦ search (rules, append-nil)
-    ]
+loop-frame-preserved c = search (rules, (path-more c.args.frames.now c.loop-frame.frame-index c.frame-item.result c.loop-frame-test.true c.frame-item.is), append-nil)

@@ -1,14 +1,12 @@
 -- What comes before the start is passed by where that is still to be done, and then the frames go on.
-use Rattle.std.proofs.Common.{◌≡◌, ◌+◌, ◌≤◌, List, [], subst, ◌∙◌, arith, take, rules}
-use Rattle.std.specs.Prelude.{nat_lt}
+use Rattle.std.proofs.Common.{List, [], take, rules}
 use Rattle.srs.specs.Kick.{Table}
 use Rattle.srs.specs.Rules.{table_of}
 use Rattle.enumerate.specs.Items.{items_of}
-use Rattle.enumerate.specs.Events.{Event, found, floods}
-use Rattle.enumerate.specs.Frames.{path_of, stacked}
+use Rattle.enumerate.specs.Events.{Event}
+use Rattle.enumerate.specs.Frames.{stacked}
 use Rattle.enumerate.specs.Rest.{events_from}
 use Rattle.enumerate.specs.Seeks.{SkipsTo}
-use Rattle.enumerate.specs.Walks.{Finds}
 use Rattle.enumerate.proofs.SearchLemmas.{finds-same, moved-skips, pending-skips, standing-skips}
 use Rattle.enumerate.proofs.Counting.{counts-none, counts-then}
 use Rattle.enumerate.proofs.start.go_on.Given.{Over}
@@ -31,25 +29,13 @@ abbrev after : (g : Over) (c : After-advance g) → Table → List Event
 after g c table = stacked table c.args.problem.now.drop_mode [] (take c.advance.result c.advance.new.frames)
 
 pub returns-clause-found : goal.returns-clause-found
-returns-clause-found g c =
-    let skips = passed g c in
-    finds-same _ _ _ _ _ skips.same
-    (subst (λ (table : Table). Finds (found (before g c table)) (found (after g c table)) (path_of (take c.advance.result c.advance.new.frames)) (nat_lt 0 c.advance.result)) c.requires.rules c.advance.ensures.found)
+returns-clause-found g c = search (rules, finds-same, (passed g c))
 
 pub returns-clause-counted : goal.returns-clause-counted
-returns-clause-counted g c =
-    let skips = passed g c in
-    skips.counted
-    ∙ subst (λ (table : Table). floods (before g c table) + c.if-pending.steps ≡ floods (after g c table) + c.advance.new.steps) c.requires.rules c.advance.ensures.counted
+returns-clause-counted g c = search (rules, (passed g c))
 
 pub returns-clause-fewer : goal.returns-clause-fewer
-returns-clause-fewer g c =
-    let skips = passed g c in
-    let less = subst (λ (table : Table). floods (after g c table) ≤ floods (before g c table)) c.requires.rules c.advance.ensures.fewer in
-    omega (arith, skips.fewer, less)
+returns-clause-fewer g c = search (rules, (passed g c))
 
 pub returns-clause-noted : goal.returns-clause-noted
-returns-clause-noted g c = counts-then c.args.notes.now.floods c.if-pending.notes.floods c.advance.new.notes.floods c.args.steps.now c.if-pending.steps c.advance.new.steps (elim c.if-pending.branch [
-  | then-pending w ↦ rw (w.notes-is, w.steps-is) w.begin-depth.ensures.noted
-  | else-pending w ↦ rw (w.notes-is, w.steps-is) (counts-none c.args.notes.now.floods c.args.steps.now)
-]) c.advance.ensures.noted
+returns-clause-noted g c = counts-then c.args.notes.now.floods c.if-pending.notes.floods c.advance.new.notes.floods c.args.steps.now c.if-pending.steps c.advance.new.steps (search (rules, (counts-none c.args.notes.now.floods c.args.steps.now))) c.advance.ensures.noted

@@ -1,13 +1,11 @@
 -- One more character is packed, and then all are.
-use Rattle.std.proofs.Common.{refl, get_or, arith}
+use Rattle.std.proofs.Common.{get_or, arith, rules}
 use Rattle.fumen_comment.proofs.Packing.{packed_more, packed_all, packed_below}
 use Rattle.fumen_comment.proofs.part.packed.Goals as goal
 
 pub loop-c-preserved : goal.loop-c-preserved
 loop-c-preserved c =
-    let i = c.loop-c.c-index in
-    let range = c.requires.printable i 0 c.loop-c-test.true in
-    packed_more c.args.group.now i c.loop-c.number c.loop-c.weight (get_or c.args.group.now i 0) c.loop-c-test.true (omega arith) (omega arith) refl c.loop-c.invariant
+    search (rules, (packed_more c.args.group.now c.loop-c.c-index c.loop-c.number c.loop-c.weight (get_or c.args.group.now c.loop-c.c-index 0) c.loop-c-test.true))
 
 pub returns-clause-value : goal.returns-clause-value
 returns-clause-value c = packed_all c.args.group.now c.loop-c.c-index c.loop-c.number c.loop-c.weight c.loop-c-test.false c.loop-c.invariant

@@ -10,10 +10,7 @@ loop-left-init c = search (rules, text_starts)
 
 pub loop-left-preserved : goal.loop-left-preserved
 loop-left-preserved c =
-    let left = c.loop-left.left in
-    let group = c.in_ok-group.group in
-    let more = taken left group c.min.result c.unpacked-characters.result c.min.ensures c.unpacked-characters.ensures in
-    rw (c.in_ok-extend_from_slice.ensures.items, c.saturating_sub-left.ensures) (text_more c.args.digits.now c.args.place c.args.count c.loop-left.text.items c.loop-left.place left group _ c.loop-left-test.true c.in_ok-group.ensures.within c.in_ok-group.ensures.exact more c.loop-left.invariant)
+    search (rules, (taken c.loop-left.left c.in_ok-group.group c.min.result c.unpacked-characters.result c.min.ensures c.unpacked-characters.ensures), (text_more c.args.digits.now c.args.place c.args.count c.loop-left.text.items c.loop-left.place c.loop-left.left c.in_ok-group.group))
 
 pub returns-in_err-group-clause-exact : goal.returns-in_err-group-clause-exact
 returns-in_err-group-clause-exact c = search (rules, err_from_is_err_and, text_stops)

@@ -13,8 +13,7 @@ pub loop-i-init : goal.loop-i-init
 loop-i-init c = check_starts c.args.dialect c.args.pages.now
 
 pub loop-i-preserved : goal.loop-i-preserved
-loop-i-preserved c =
-    check_more c.args.dialect c.args.pages.now c.loop-i.i c.index-pages-i.result (omega arith) c.index-pages-i.is c.in_ok-check_page.ensures.fault c.in_ok-check_page.ensures.fit c.loop-i.invariant
+loop-i-preserved c = search (rules, (check_more c.args.dialect c.args.pages.now c.loop-i.i c.index-pages-i.result))
 
 pub returns-clause-fault : goal.returns-clause-fault
 returns-clause-fault c = (check_ends c.args.dialect c.args.pages.now c.loop-i.i (omega arith) (omega (arith, c.if-pages-gt-MOST_PAGES.false)) c.loop-i.invariant).0

@@ -1,5 +1,5 @@
 -- The canonical placements of a state and of its rest are turned alike and stand in one column.
-use Rattle.std.proofs.Common.{ap, arith}
+use Rattle.std.proofs.Common.{ap, arith, rules}
 use Rattle.srs.specs.Rotation.{rotation_place}
 use Rattle.srs.proofs.CallerLemmas.{rotation_place-injective}
 use Rattle.well.specs.Well.{filled}
@@ -30,11 +30,4 @@ canonical-requires c = free_inside (filled c.args.well.now) c.fall.result (rest_
 
 pub returns : goal.returns
 returns c =
-    let F = filled c.args.well.now in
-    let state = c.args.state.now in
-    let above = c.canonical-above.ensures in
-    let low = c.canonical.ensures in
-    by_rows F c.args.aim.now c.canonical-above.result state c.canonical.result c.fall.result c.requires.canonical c.requires.kind
-    (record { kind = above.piece; turn = above.rotation; pivot = above.pivot }) (rest_of-only F state c.fall.result c.requires.free c.fall.ensures) (rest_below F state c.fall.result c.fall.ensures)
-    (record { kind = low.piece; turn = low.rotation; pivot = low.pivot })
-    (rotation_place-injective c.canonical-above.result.rotation c.args.aim.now.rotation (omega (arith, c.place.ensures, c.place-2.ensures, c.if-place.false))) c.if-above-aim.false
+    search (rules, (by_rows (filled c.args.well.now) c.args.aim.now c.canonical-above.result c.args.state.now c.canonical.result c.fall.result c.requires.canonical c.requires.kind), (rest_of-only (filled c.args.well.now) c.args.state.now c.fall.result c.requires.free c.fall.ensures), (rest_below (filled c.args.well.now) c.args.state.now c.fall.result c.fall.ensures), (rotation_place-injective c.canonical-above.result.rotation c.args.aim.now.rotation))

@@ -16,8 +16,7 @@ returns-in_err-next c = search (rules, new_no_move)
 
 pub is_unseen-requires : goal.is_unseen-requires
 is_unseen-requires c =
-    let inside = free_pivot_inside (filled c.args.states.now.well) c.in_ok-next.next (step_of-free (table_of c.args.rules.now) (filled c.args.states.now.well) c.args.state.now c.args.key c.in_ok-next.next (sym c.step.ensures ∙ c.in_ok-next.was)).free in
-    record { in_columns = inside.in_columns; in_rows = inside.in_rows }
+    search (rules, (free_pivot_inside (filled c.args.states.now.well) c.in_ok-next.next (step_of-free (table_of c.args.rules.now) (filled c.args.states.now.well) c.args.state.now c.args.key c.in_ok-next.next (sym c.step.ensures ∙ c.in_ok-next.was)).free))
 
 pub returns : goal.returns
 returns c = search (rules, then_some, new_move)

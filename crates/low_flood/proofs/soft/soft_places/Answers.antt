@@ -1,4 +1,5 @@
 -- A board for each rotation.
+use Rattle.std.proofs.Common.{rules}
 use Rattle.lane_board.specs.Board.{field_of}
 use Rattle.lane_board.proofs.CallerLemmas.{field_of-within}
 use Rattle.low_flood.specs.SoftLanes.{soft_board}
@@ -10,6 +11,4 @@ use Rattle.low_flood.proofs.soft.soft_places.Goals as goal
 pub returns : goal.returns
 unfolding states_of
 returns g c =
-    soft_by (field_of c.args.filled.now) g.row.N g.row.M c.args.piece (states_of c.free_boards-free.result) (states_of c.flood-reached.result) _ c.requires.clear (many_rows g.row.N c.args.filled.now.lane_count) c.requires.few (record { inside = field_of-within c.args.filled.now })
-    c.free_boards-free.ensures c.flood-reached.ensures
-    (each_cut g.row.M (soft_board c.args.piece g.row.N (states_of c.free_boards-free.result) (states_of c.flood-reached.result)) _ c.soft_board.ensures c.soft_board-2.ensures c.soft_board-3.ensures c.soft_board-4.ensures)
+    search (rules, (soft_by (field_of c.args.filled.now) g.row.N g.row.M c.args.piece (states_of c.free_boards-free.result) (states_of c.flood-reached.result)), (many_rows g.row.N c.args.filled.now.lane_count), (field_of-within c.args.filled.now), (each_cut g.row.M (soft_board c.args.piece g.row.N (states_of c.free_boards-free.result) (states_of c.flood-reached.result))))

@@ -1,8 +1,7 @@
 -- The garbage row and then the rows are written over zeros.
-use Rattle.std.proofs.Common.{arith}
+use Rattle.std.proofs.Common.{rules}
 use Rattle.page_list.proofs.PutLemmas.{both_written}
 use Rattle.page_list.proofs.cells.cells_of.Goals as goal
 
 pub returns : goal.returns
-returns c =
-    both_written 230 240 c.args.rows.now c.args.garbage.now c.put.new.cells c.put-2.new.cells c.requires (let size = c.told-garbage in omega arith) c.put.ensures c.put-2.ensures
+returns c = search (rules, (both_written 230 240 c.args.rows.now c.args.garbage.now c.put.new.cells c.put-2.new.cells c.requires))

@@ -2,8 +2,8 @@
 use Rattle.std.proofs.Common.{◌≡◌, ◌∙◌, sym, ap, arith, length, length-append, [], ◌∷◌, eq-eqb, ne_eqb, rules}
 use Rattle.page_list.specs.CellsReading.{rows_at}
 use Rattle.page_list.proofs.ReadLemmas.{slash_read, slash_missing, letter_read, letter_missing, end_read, end_missing}
-use Rattle.page_list.proofs.cells.rows_at.Goals as goal
 use Rattle.page_list.proofs.cells.rows_at.Goals.{then-column-eq10+else-text-place-ne47, else-column-eq10+in_ok-colour_in}
+use Rattle.page_list.proofs.cells.rows_at.Goals as goal
 
 pub returns-then-text-place-ne47-clause-value : goal.returns-then-text-place-ne47-clause-value
 returns-then-text-place-ne47-clause-value c = search (rules, slash_missing, eq-eqb, ne_eqb)

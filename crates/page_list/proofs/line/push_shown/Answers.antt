@@ -1,5 +1,5 @@
 -- One row more is written, and then all are.
-use Rattle.std.proofs.Common.{◌≡◌, ◌+◌, ◌++◌, ◌∙◌, sym, ap, append_assoc, append-nil, arith, rules}
+use Rattle.std.proofs.Common.{◌≡◌, ◌++◌, ◌∙◌, sym, ap, append_assoc, append-nil, arith, rules}
 use Rattle.std.specs.List.{join_with_byte}
 use Rattle.fumen_pages.proofs.CallerLemmas.{rows_left, rows_left-end, shown-left}
 use Rattle.page_list.proofs.RowLemmas.{joined-more}

@@ -20,9 +20,7 @@ returns-in_err-page-clause-exact c =
     (ap (λ n. behind c.loop-rest.pages.items (pages_from (n + 1) (lines_of c.loop-rest.rest.now))) (c.len.ensures ∙ c.loop-rest.pages.ok.0) ∙ c.loop-rest.invariant.0))
 
 pub loop-rest-smaller : goal.loop-rest-smaller
-loop-rest-smaller c =
-    let some : 0 < length c.loop-rest.rest.now = grind (arith, c.is_empty.ensures, c.loop-rest-test.true) in
-    behind_shorter c.loop-rest.rest.now c.first_line.result.0.now c.first_line.result.1.now some c.first_line.ensures
+loop-rest-smaller c = search (rules, (behind_shorter c.loop-rest.rest.now c.first_line.result.0.now c.first_line.result.1.now))
 
 pub loop-rest-preserved : goal.loop-rest-preserved
 loop-rest-preserved c = search (rules, page_read, length-append, first_page, was_ok)

@@ -1,6 +1,5 @@
 -- The field is had, or the run ends.
-use Rattle.std.proofs.Common.{true, refl}
-use Rattle.well.specs.Well.{filled}
+use Rattle.std.proofs.Common.{true, refl, rules}
 use Rattle.pc_settings.specs.Views.{field_view}
 use Rattle.pc_source.specs.FieldTask.{its_rest}
 use Rattle.pc_source.proofs.FieldTasks.{field_had, field_refused}
@@ -16,5 +15,4 @@ returns-in-Err g c =
 
 pub returns-in-Ok : goal.returns-in-Ok
 returns-in-Ok g c =
-    let request = field_view c.args.settings.now in
-    field_had its_rest request.field request.page true (covering_task request) c.args.bytes.now _ _ c.args.steps.now c.cover_all.new.steps (filled c.in-Ok.well) c.in-Ok.ensures.field (λ none. none) (λ _. refl) c.cover_all.result c.cover_all.ensures
+    search (rules, (field_had its_rest (field_view c.args.settings.now).field (field_view c.args.settings.now).page true (covering_task (field_view c.args.settings.now)) c.args.bytes.now))

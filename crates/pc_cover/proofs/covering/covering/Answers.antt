@@ -1,5 +1,5 @@
 -- One more sequence is looked at.
-use Rattle.std.proofs.Common.{◌≡◌, ◌∙◌, ◌+◌, ◌++◌, ◌∷◌, ◌↔◌, [], IsTrue, length, map, take, sum_by, sym, ap, subst, arith}
+use Rattle.std.proofs.Common.{◌≡◌, ◌∙◌, ◌+◌, ◌++◌, ◌∷◌, ◌↔◌, [], IsTrue, length, map, take, sum_by, sym, ap, subst, arith, rules}
 use Rattle.std.proofs.lemmas.List.{map_more, take_all}
 use Rattle.cover.specs.Covered.{PlaysIn}
 use Rattle.cover.specs.Kept.{lists_of}
@@ -33,17 +33,8 @@ returns-clause-covered g c =
     (subst (λ l. KeepsKindsOf c.args.problem.now (lists_of c.loop-sequence.set) (map listed_placements l)) all c.loop-sequence.invariant.1)
 
 pub returns-clause-few : goal.returns-clause-few
-returns-clause-few g c =
-    let sequences = c.args.sequences.now in
-    let all : take c.loop-sequence.sequence-index sequences ≡ sequences = take_all c.loop-sequence.sequence-index sequences c.loop-sequence-test.false in
-    omega (arith, c.loop-sequence.invariant.3, ap (λ l. sum_by length (map listed_placements l)) all)
+returns-clause-few g c = search (rules, (take_all c.loop-sequence.sequence-index c.args.sequences.now c.loop-sequence-test.false))
 
 pub returns-in_err-add-clause-few : goal.returns-in_err-add-clause-few
 returns-in_err-add-clause-few g c =
-    let sequences = c.args.sequences.now in
-    let i = c.loop-sequence.sequence-index in
-    let item = c.sequence-item.result in
-    let before = map listed_placements (take i sequences) in
-    let split : map listed_placements (take (i + 1) sequences) ≡ before ++ listed_placements item ∷ [] =
-    map_more listed_placements sequences i item c.loop-sequence-test.true ∙ ap (λ s. before ++ listed_placements s ∷ []) (sym c.sequence-item.is) in
-    omega (arith, c.loop-sequence.invariant.3, c.in_err-add.ensures.few, ap (sum_by length) split, size-more before (listed_placements item), size-front sequences (i + 1))
+    search (rules, (map_more listed_placements c.args.sequences.now c.loop-sequence.sequence-index c.sequence-item.result c.loop-sequence-test.true), (size-more (map listed_placements (take c.loop-sequence.sequence-index c.args.sequences.now)) (listed_placements c.sequence-item.result)), (size-front c.args.sequences.now (c.loop-sequence.sequence-index + 1)))

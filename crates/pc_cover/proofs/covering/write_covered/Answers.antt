@@ -1,5 +1,5 @@
 -- The next covered queue is written, or there is none.
-use Rattle.std.proofs.Common.{◌≡◌, ◌+◌, ◌-◌, length, ap, subst, arith, None}
+use Rattle.std.proofs.Common.{◌≡◌, ◌+◌, length, ap, subst, arith, None, rules}
 use Rattle.pc_outside.specs.CountLaws.{none_more}
 use Rattle.pc_outside.specs.Writes.{GrowsUpTo}
 use Rattle.pc_outside.specs.WriteLaws.{after_piece, at_err, ends, failed_piece}
@@ -22,17 +22,10 @@ returns-in_err-write_queue-clause-written g c =
     at_err c.from_residual.ensures.0 (failed_piece _ c.loop-from.invariant.0 line c.in_err-write_queue.ensures.written)
 
 pub queue-requires : goal.queue-requires
-queue-requires g c =
-    let lists = lists_of c.args.set.now in
-    let least : IsLeastFrom (IsPermitted c.args.problem.now lists) c.loop-from.from c.in-Some.number = subst (λ p. IsLeastFrom (IsPermitted p lists) c.loop-from.from c.in-Some.number) c.requires c.in-Some.ensures in
-    permitted-within c.permits_is_decided.ensures.queue c.args.problem.now lists c.in-Some.number least.member
+queue-requires g c = search (rules, (permitted-within c.permits_is_decided.ensures.queue c.args.problem.now (lists_of c.args.set.now) c.in-Some.number))
 
 pub overflow_add-from : goal.overflow_add-from
-overflow_add-from g c =
-    let lists = lists_of c.args.set.now in
-    let least : IsLeastFrom (IsPermitted c.args.problem.now lists) c.loop-from.from c.in-Some.number = subst (λ p. IsLeastFrom (IsPermitted p lists) c.loop-from.from c.in-Some.number) c.requires c.in-Some.ensures in
-    let within = permitted-within c.permits_is_decided.ensures.queue c.args.problem.now lists c.in-Some.number least.member in
-    omega (arith, within, c.count-all.ensures.number, c.count-all.ensures.few)
+overflow_add-from g c = search (rules, (permitted-within c.permits_is_decided.ensures.queue c.args.problem.now (lists_of c.args.set.now) c.in-Some.number))
 
 pub loop-from-preserved : goal.loop-from-preserved
 loop-from-preserved g c =
@@ -72,16 +65,7 @@ returns-in_default-clause-count g c =
 
 pub returns-clause-written : goal.returns-clause-written
 returns-clause-written g c =
-    let problem = c.args.problem.now in
-    let lists = lists_of c.args.set.now in
-    let all = queues (elements_of problem.pattern) in
-    let empty = numbers-over c.permits_is_decided.ensures.queue problem lists c.loop-from.from (omega (arith, c.loop-from-test.false, c.count-all.ensures.number)) in
-    record {
-      done = ends (subst (λ l. GrowsUpTo (g.O.Sink.written c.args.out.now) (g.O.Sink.written c.loop-from.out) (queues_form all (numbers_from problem lists 0)) l) (form-none all (numbers_from problem lists c.loop-from.from) empty) c.loop-from.invariant.0);
-      failed = tt;
-    }
+    search (rules, (numbers-over c.permits_is_decided.ensures.queue c.args.problem.now (lists_of c.args.set.now) c.loop-from.from), (g.O.Sink.written c.args.out.now), (g.O.Sink.written c.loop-from.out), (form-none (queues (elements_of c.args.problem.now.pattern)) (numbers_from c.args.problem.now (lists_of c.args.set.now) c.loop-from.from)))
 
 pub returns-clause-count : goal.returns-clause-count
-returns-clause-count g c =
-    let empty = numbers-over c.permits_is_decided.ensures.queue c.args.problem.now (lists_of c.args.set.now) c.loop-from.from (omega (arith, c.loop-from-test.false, c.count-all.ensures.number)) in
-    omega (arith, c.loop-from.invariant.2, ap length empty)
+returns-clause-count g c = search (rules, (numbers-over c.permits_is_decided.ensures.queue c.args.problem.now (lists_of c.args.set.now) c.loop-from.from))

@@ -1,19 +1,16 @@
 -- One more line is read, or has a fault, or the text ends.
-use Rattle.std.proofs.Common.{◌<◌, length, map, arith, sym, ap, subst}
+use Rattle.std.proofs.Common.{map, arith, rules}
 use Rattle.std.proofs.lemmas.List.{nil_from_length}
 use Rattle.page_list.proofs.CallerLemmas.{behind_shorter}
 use Rattle.pc_cover.specs.Sequences.{listed_placements}
-use Rattle.pc_cover.proofs.GivenLemmas.{Reading, reading-starts, reading-goes_on, reading-refused, reading-ends}
+use Rattle.pc_cover.proofs.GivenLemmas.{reading-starts, reading-goes_on, reading-refused, reading-ends}
 use Rattle.pc_cover.proofs.given.sequences_in.Goals as goal
 
 pub loop-rest-init : goal.loop-rest-init
-loop-rest-init c =
-    subst (λ l. Reading c.args.needed c.args.text.now l 0 c.args.text.now) (sym (ap (map listed_placements) c.new-sequences.ensures.items)) (reading-starts c.args.needed c.args.text.now)
+loop-rest-init c = search (rules, (reading-starts c.args.needed c.args.text.now))
 
 pub loop-rest-smaller : goal.loop-rest-smaller
-loop-rest-smaller c =
-    let some : 0 < length c.loop-rest.rest.now = grind (arith, c.is_empty.ensures, c.loop-rest-test.true) in
-    behind_shorter c.loop-rest.rest.now c.first_line.result.0.now c.first_line.result.1.now some c.first_line.ensures
+loop-rest-smaller c = search (rules, (behind_shorter c.loop-rest.rest.now c.first_line.result.0.now c.first_line.result.1.now))
 
 pub returns : goal.returns
 returns c =
@@ -22,13 +19,8 @@ returns c =
 
 pub loop-rest-preserved : goal.loop-rest-preserved
 loop-rest-preserved c =
-    let some : 0 < length c.loop-rest.rest.now = grind (arith, c.is_empty.ensures, c.loop-rest-test.true) in
-    reading-goes_on c.args.needed c.args.text.now (map listed_placements c.loop-rest.sequences.items) c.loop-rest.number c.loop-rest.rest.now c.first_line.result.0.now c.first_line.result.1.now c.loop-rest.invariant some c.first_line.ensures
-    (map listed_placements c.read_line.new.sequences.items) c.in-Ok.ensures.goes_on
-    (behind_shorter c.loop-rest.rest.now c.first_line.result.0.now c.first_line.result.1.now some c.first_line.ensures)
+    search (rules, (reading-goes_on c.args.needed c.args.text.now (map listed_placements c.loop-rest.sequences.items) c.loop-rest.number c.loop-rest.rest.now c.first_line.result.0.now c.first_line.result.1.now c.loop-rest.invariant), (behind_shorter c.loop-rest.rest.now c.first_line.result.0.now c.first_line.result.1.now))
 
 pub returns-in-Err : goal.returns-in-Err
 returns-in-Err c =
-    let some : 0 < length c.loop-rest.rest.now = grind (arith, c.is_empty.ensures, c.loop-rest-test.true) in
-    reading-refused c.args.needed c.args.text.now (map listed_placements c.loop-rest.sequences.items) c.loop-rest.number c.loop-rest.rest.now c.first_line.result.0.now c.first_line.result.1.now c.loop-rest.invariant some c.first_line.ensures
-    c.in-Err.refused c.in-Err.ensures.stops
+    search (rules, (reading-refused c.args.needed c.args.text.now (map listed_placements c.loop-rest.sequences.items) c.loop-rest.number c.loop-rest.rest.now c.first_line.result.0.now c.first_line.result.1.now c.loop-rest.invariant))

@@ -9,6 +9,4 @@ returns-in-None c = search (rules, first_state-none)
 
 pub returns-in-Some : goal.returns-in-Some
 returns-in-Some c =
-    first_state-some c.args.numbers.now c.args.piece (place_number c.args.first c.args.y c.args.x) c.number_from.result c.in-Some.number c.state_with.result
-    c.number_from.ensures.start c.in-Some.ensures c.state_with.ensures.piece
-    (record { rotation = c.state_with.ensures.rotation; row = c.state_with.ensures.row; column = c.state_with.ensures.column })
+    search (rules, (first_state-some c.args.numbers.now c.args.piece (place_number c.args.first c.args.y c.args.x) c.number_from.result c.in-Some.number c.state_with.result c.number_from.ensures.start c.in-Some.ensures c.state_with.ensures.piece))

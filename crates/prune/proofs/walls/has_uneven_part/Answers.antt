@@ -1,5 +1,5 @@
 -- Each column goes on, or is the last of an uneven part.
-use Rattle.std.proofs.Common.{refl, arith}
+use Rattle.std.proofs.Common.{refl, arith, rules}
 use Rattle.std.proofs.lemmas.Bool.{false≢true, both_ways}
 use Rattle.well.specs.Well.{filled}
 use Rattle.prune.proofs.ColumnCounts.{column_empties-le}
@@ -26,10 +26,7 @@ returns-then-is_walled-clause-none c = λ _ supply tiling. no_uneven_part _ _ su
 
 pub loop-x-preserved : goal.loop-x-preserved
 loop-x-preserved c = parts-next _ _ c.loop-x.x c.loop-x.empties c.column_empties-empties.result c.requires c.column_empties-empties.ensures
-    (λ uneven wall. elim c.else-empties-ne0.branch [
-      | else-empties-ne0-via-then-empties-ne0+else-is_walled w ↦ both_ways _ w.if-is_walled.false (w.is_walled.ensures.1 wall)
-      | else-empties-ne0-via-else-empties-ne0 w ↦ uneven w.if-empties-ne0.false
-    ])
+    (search (rules, else-empties-ne0-via-then-empties-ne0+else-is_walled, both_ways, else-empties-ne0-via-else-empties-ne0))
     c.loop-x.invariant
 
 pub returns-clause-exact : goal.returns-clause-exact

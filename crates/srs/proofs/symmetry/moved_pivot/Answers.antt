@@ -1,7 +1,6 @@
 -- The pivot lies in the well, and so does that of the canonical placement.
-use Rattle.std.proofs.Common.{◌≡◌, pos, arith, to_z, of_z, w8, ap, ◌∙◌, rules}
+use Rattle.std.proofs.Common.{◌≡◌, pos, arith, to_z, of_z, w8, ap, rules}
 use Rattle.std.proofs.lemmas.Int.{ints}
-use Rattle.std.specs.Prelude.{nat_abs}
 use Rattle.srs.specs.Cells.{Cell, moved, pivot_of}
 use Rattle.srs.specs.Canonical.{canonical_move}
 use Rattle.srs.proofs.CanonicalLemmas.{canonical_pivot, pivot_inside, LiesAt}
@@ -39,10 +38,4 @@ pub overflow_cast-result-2 : goal.overflow_cast-result-2
 overflow_cast-result-2 c = let there = lies c in let y : c.cell_at-x.result.1 ≡ pos there.y = ap (λ (c : Cell). c.1) there.is in omega (arith, ints)
 
 pub returns-clause-pivot : goal.returns-clause-pivot
-returns-clause-pivot c =
-    let there = lies c in
-    let x : c.cell_at-x.result.0 ≡ pos there.x = ap (λ (c : Cell). c.0) there.is in
-    let y : c.cell_at-x.result.1 ≡ pos there.y = ap (λ (c : Cell). c.1) there.is in
-    let column : pos (nat_abs (to_z w8 (of_z w8 c.cell_at-x.result.0))) ≡ c.cell_at-x.result.0 = omega (arith, ints) in
-    let row : pos (nat_abs (to_z w8 (of_z w8 c.cell_at-x.result.1))) ≡ c.cell_at-x.result.1 = omega (arith, ints) in
-    (λ i. (column i, row i)) ∙ at_moved c
+returns-clause-pivot c = search (rules, (lies c), (to_z w8 (of_z w8 c.cell_at-x.result.0)), (to_z w8 (of_z w8 c.cell_at-x.result.1)), (at_moved c))

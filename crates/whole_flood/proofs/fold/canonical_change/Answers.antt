@@ -1,6 +1,5 @@
 -- The canonical placement lies as far from column 4 and row 4 as any pivot moves.
-use Rattle.std.proofs.Common.{◌≡◌, ◌≤◌, pos, ◌-ℤ◌, to_z, of_z, w8, ◌∙◌, arith}
-use Rattle.std.proofs.lemmas.Int.{ints}
+use Rattle.std.proofs.Common.{to_z, of_z, w8, rules}
 use Rattle.whole_flood.proofs.FourLemmas.{inside_at_four, from_four}
 use Rattle.place_sets.proofs.CallerLemmas.{same_cell}
 use Rattle.whole_flood.proofs.fold.canonical_change.Goals as goal
@@ -16,10 +15,4 @@ less_four-requires-2 c = (from_four c.args.piece c.args.rotation c.canonical-ear
 
 pub returns-clause-pivot : goal.returns-clause-pivot
 returns-clause-pivot c =
-    let from = from_four c.args.piece c.args.rotation c.canonical-earliest.result c.canonical-earliest.ensures.pivot in
-    let q = c.canonical-earliest.result in
-    let column : q.x ≤ 8 = from.column in
-    let row : q.y ≤ 8 = from.row in
-    let x : to_z w8 (of_z w8 c.less_four.result) ≡ pos q.x -ℤ pos 4 = omega (arith, ints, c.less_four.ensures) in
-    let y : to_z w8 (of_z w8 c.less_four-2.result) ≡ pos q.y -ℤ pos 4 = omega (arith, ints, c.less_four-2.ensures) in
-    same_cell _ _ x y ∙ from.is
+    search (rules, (from_four c.args.piece c.args.rotation c.canonical-earliest.result c.canonical-earliest.ensures.pivot), (to_z w8 (of_z w8 c.less_four.result)), (to_z w8 (of_z w8 c.less_four-2.result)), same_cell)

@@ -1,5 +1,5 @@
 -- The place of a kind is its code less one.
-use Rattle.std.proofs.Common.{◌-◌, rules}
+use Rattle.std.proofs.Common.{rules}
 use Rattle.cover.proofs.NodeLemmas.{child-read}
 use Rattle.cover.proofs.node.Node.child.Goals as goal
 

@@ -12,10 +12,7 @@ look_at-requires-clause-node c = (branches-of c.args.self.now.tree).rooted
 pub returns-in-Found : goal.returns-in-Found
 unfolding kept_problem lists_of
 returns-in-Found c =
-    let set = c.args.self.now in
-    let nodes = nodes_of set.tree in
-    next-found set.problem (lists_of set) nodes c.start-hand.result set.listed c.start-hand.ensures.at c.args.from c.loop-number.number c.queue-queue.result.items c.loop-number.invariant c.queue-queue.ensures
-    c.in-Found.ensures
+    search (rules, (next-found c.args.self.now.problem (lists_of c.args.self.now) (nodes_of c.args.self.now.tree) c.start-hand.result c.args.self.now.listed c.start-hand.ensures.at c.args.from c.loop-number.number c.queue-queue.result.items c.loop-number.invariant c.queue-queue.ensures c.in-Found.ensures))
 
 pub loop-number-smaller : goal.loop-number-smaller
 unfolding kept_problem
@@ -24,11 +21,7 @@ loop-number-smaller c = search rules
 pub loop-number-preserved : goal.loop-number-preserved
 unfolding kept_problem lists_of
 loop-number-preserved c =
-    let set = c.args.self.now in
-    let nodes = nodes_of set.tree in
-    next-passed set.problem (lists_of set) nodes c.start-hand.result set.listed c.start-hand.ensures.at c.args.from c.loop-number.number c.end_of_front-number.result c.in-Missed.seen c.queue-queue.result.items
-    c.loop-number.invariant c.in-Missed.ensures
-    c.end_of_front-number.ensures.same c.end_of_front-number.ensures.after c.end_of_front-number.ensures.within
+    search (rules, (next-passed c.args.self.now.problem (lists_of c.args.self.now) (nodes_of c.args.self.now.tree) c.start-hand.result c.args.self.now.listed c.start-hand.ensures.at c.args.from c.loop-number.number c.end_of_front-number.result c.in-Missed.seen c.queue-queue.result.items c.loop-number.invariant c.in-Missed.ensures c.end_of_front-number.ensures.same c.end_of_front-number.ensures.after c.end_of_front-number.ensures.within))
 
 pub returns : goal.returns
 unfolding kept_problem lists_of

@@ -19,11 +19,7 @@ index_mut-requires c = search rules
 pub invariant_of-self-2 : goal.invariant_of-self-2
 unfolding nodes_of
 invariant_of-self-2 c =
-    let items = c.args.self.now.nodes.items in
-    let count : c.len-node.result ≡ length items = omega (arith, c.len-node.ensures, c.args.self.now.nodes.ok) in
-    let grown = grown-pushed items c.push.new.self.items c.args.at c.args.kind c.len-node.result c.blank.result c.index.result.now c.with.result
-    c.in_ok-push.ensures.items c.requires c.blank.ensures c.index.ensures count c.with.ensures in
-    record { branches = grown-tree items _ c.args.at c.args.kind c.args.self.now.branches c.requires (sym c.below-known.ensures ∙ c.if-known-ne0.false) grown }
+    search (rules, (grown-pushed c.args.self.now.nodes.items c.push.new.self.items c.args.at c.args.kind c.len-node.result c.blank.result c.index.result.now c.with.result c.in_ok-push.ensures.items c.requires c.blank.ensures c.index.ensures), (grown-tree c.args.self.now.nodes.items))
 
 pub returns-clause-grows : goal.returns-clause-grows
 unfolding nodes_of

@@ -1,5 +1,5 @@
 -- The lowest bit that is set.
-use Rattle.std.proofs.Common.{arith}
+use Rattle.std.proofs.Common.{rules}
 use Rattle.std.specs.Int.{w128}
 use Rattle.std.proofs.lemmas.Nat.Bits.{bit_at-trailing_zeros}
 use Rattle.empty_cells.proofs.EmptiesLemmas.{none_in_zero, first_from_lowest}
@@ -9,7 +9,4 @@ pub returns-then-self-eq0 : goal.returns-then-self-eq0
 returns-then-self-eq0 c = none_in_zero c.args.self.now c.if-self-eq0.true
 
 pub returns : goal.returns
-returns c =
-    let e = c.args.self.now in
-    let lowest = bit_at-trailing_zeros w128 e.cells (omega arith) (omega (arith, e.in_columns)) in
-    first_from_lowest e _ lowest.1 lowest.2
+returns c = search (rules, (bit_at-trailing_zeros w128 c.args.self.now.cells), (first_from_lowest c.args.self.now))

@@ -1,7 +1,6 @@
 -- Each column comes below those before it.
-use Rattle.std.proofs.Common.{◌+◌, ap, ◌∙◌, arith}
+use Rattle.std.proofs.Common.{arith, rules}
 use Rattle.std.proofs.Math.Bool.{and-true}
-use Rattle.lane_board.specs.Lanes.{has_bit}
 use Rattle.empty_cells.specs.Empties.{empty_cells}
 use Rattle.empty_cells.specs.Spans.{has_span}
 use Rattle.empty_cells.proofs.Mirrors.{none_above, turned-all, turned-next, turned-small, turned-start}
@@ -12,10 +11,7 @@ loop-x-init c = turned-start _
 
 pub loop-x-preserved : goal.loop-x-preserved
 unfolding has_span
-loop-x-preserved c =
-    let E = empty_cells c.args.self.now in
-    turned-next E c.loop-x.cells c.loop-x.x c.from.result (omega arith) (omega (arith, c.from.ensures, c.rows_with.type_inv))
-    (λ b low. ap (λ n. has_bit n b) c.from.ensures ∙ c.rows_with.ensures b low ∙ and-true (E (c.loop-x.x + 0) b) ∙ ap (λ k. E k b) {x = c.loop-x.x + 0} (omega arith)) c.loop-x.invariant
+loop-x-preserved c = search (rules, (turned-next (empty_cells c.args.self.now) c.loop-x.cells c.loop-x.x c.from.result), c.rows_with.ensures, and-true)
 
 pub invariant_of-result : goal.invariant_of-result
 invariant_of-result c = record { in_columns = turned-small _ _ c.loop-x.x (omega arith) c.loop-x.invariant }

@@ -46,17 +46,11 @@ loop-x-init c = λ a b. ap (λ (E : Field). E a b) c.empty-sent.ensures
 
 pub bounds-rows-y : goal.bounds-rows-y
 bounds-rows-y c =
-    let cell = near c.cells-x-items.result c.loop-x.x-index (subst (λ cells. list_all (has_cell (rows_below 8)) cells ≡ true) (sym c.cells-x-items.ensures) c.requires.inside) (omega (arith, c.loop-x-test.true, c.cells-x-items.type_inv)) in
-    let y : (get_or c.cells-x-items.result c.loop-x.x-index (pos 0, pos 0)).1 ≡ pos cell.y = ap (λ (c : Cell). c.1) cell.is in
-    let low = cell.row in
-    omega (arith, ints)
+    search (rules, (near c.cells-x-items.result c.loop-x.x-index (subst (λ cells. list_all (has_cell (rows_below 8)) cells ≡ true) (sym c.cells-x-items.ensures) c.requires.inside)))
 
 pub with_cell-sent-requires-clause-column : goal.with_cell-sent-requires-clause-column
 with_cell-sent-requires-clause-column c =
-    let cell = near c.cells-x-items.result c.loop-x.x-index (subst (λ cells. list_all (has_cell (rows_below 8)) cells ≡ true) (sym c.cells-x-items.ensures) c.requires.inside) (omega (arith, c.loop-x-test.true, c.cells-x-items.type_inv)) in
-    let x : (get_or c.cells-x-items.result c.loop-x.x-index (pos 0, pos 0)).0 ≡ pos cell.x = ap (λ (c : Cell). c.0) cell.is in
-    let low = cell.column in
-    omega (arith, ints)
+    search (rules, (near c.cells-x-items.result c.loop-x.x-index (subst (λ cells. list_all (has_cell (rows_below 8)) cells ≡ true) (sym c.cells-x-items.ensures) c.requires.inside)))
 
 pub loop-x-preserved : goal.loop-x-preserved
 loop-x-preserved c = λ a b.

@@ -1,5 +1,5 @@
 -- The bits further down, up to the last column.
-use Rattle.std.proofs.Common.{◌≡◌, ℕ, ◌+◌, ◌-◌, ◌*◌, ◌%◌, ◌^◌, ◌<◌, Bool, true, ◌&&◌, nat_le, bit_and, sym, ap, ◌∙◌, inl, inr, arith, rules}
+use Rattle.std.proofs.Common.{◌≡◌, ℕ, ◌+◌, ◌-◌, ◌*◌, ◌%◌, ◌^◌, ◌<◌, Bool, ◌&&◌, nat_le, bit_and, arith, rules}
 use Rattle.std.proofs.lemmas.Bool.{and_left, and_right, cases_lt, false_from_ne_true, le-leb, le-ltb, leb-true}
 use Rattle.std.proofs.lemmas.Nat.{and_mask}
 use Rattle.std.proofs.Math.Bool.{and-false}
@@ -19,14 +19,8 @@ pub invariant_of-result : goal.invariant_of-result
 invariant_of-result c = record { in_columns = small (c.args.self.now.cells * 2 ^ (8 * c.args.x) % 2 ^ 128) }
 
 bits : (n x a b : ℕ) → b < 8 → has_bit (bit_and (n * 2 ^ (8 * x) % 2 ^ 128) 0xffff_ffff_ffff_ffff_ffff) (8 * a + b) ≡ (nat_le a 9 && (nat_le x a && has_bit n (8 * (a - x) + b)))
-bits n x a b low = ap (λ m. has_bit m (8 * a + b)) (masked (n * 2 ^ (8 * x) % 2 ^ 128)) ∙ elim (cases_lt 9 a) [
-  | inl past ↦ has_bit-past ((n * 2 ^ (8 * x) % 2 ^ 128) % 2 ^ 80) 80 (8 * a + b) (omega arith) (omega (arith, past)) ∙ sym (and_left _ _ (false_from_ne_true _ (λ (le : nat_le a 9 ≡ true). omega (arith, past, leb-true a 9 le))))
-  | inr near ↦
-      has_bit-low (n * 2 ^ (8 * x) % 2 ^ 128) 80 (8 * a + b) (omega (arith, near, low)) ∙ has_bit-low (n * 2 ^ (8 * x)) 128 (8 * a + b) (omega (arith, near, low)) ∙ elim (cases_lt a x) [
-        | inl before ↦ has_bit-shifted_low n (8 * x) (8 * a + b) (omega (arith, before, low)) ∙ sym (and_right _ _ (and_left _ _ (false_from_ne_true _ (λ (le : nat_le x a ≡ true). omega (arith, before, leb-true x a le)))))
-        | inr from ↦ search (rules, has_bit-shifted_high, le-leb)
-      ]
-]
+bits n x a b low =
+    search (rules, (masked (n * 2 ^ (8 * x) % 2 ^ 128)), (cases_lt 9 a), (has_bit-past ((n * 2 ^ (8 * x) % 2 ^ 128) % 2 ^ 80) 80 (8 * a + b)), and_left, false_from_ne_true, (leb-true a 9), (has_bit-low (n * 2 ^ (8 * x) % 2 ^ 128) 80 (8 * a + b)), (has_bit-low (n * 2 ^ (8 * x)) 128 (8 * a + b)), (cases_lt a x), (has_bit-shifted_low n (8 * x) (8 * a + b)), and_right, (leb-true x a), has_bit-shifted_high, le-leb)
 
 swapped : (p q r s : Bool) → (p && (q && (r && s))) ≡ (q && (r && (p && s)))
 swapped p q r s = search (rules, and-false)

@@ -1,30 +1,17 @@
 -- What the flood holds is the places of the kind, in order.
-use Rattle.std.proofs.Common.{◌≡◌, sym, subst, rules}
-use Rattle.std.specs.Prelude.{true}
+use Rattle.std.proofs.Common.{◌≡◌, subst, rules}
 use Rattle.reach.specs.FloodRules.{flood_table}
 use Rattle.srs.proofs.CallerLemmas.{some_same}
 use Rattle.well.specs.Well.{filled}
 use Rattle.place_sets.specs.LowPlaces.{piece_of}
-use Rattle.hold_queue.specs.QueueSet.{queues_in_play}
-use Rattle.enumerate.specs.Setups.{IsSupplyAfter, position_of}
-use Rattle.enumerate.specs.Position.{may_play}
-use Rattle.enumerate.proofs.TurnLemmas.{HeldBelow, Lockable, flooded-below, flooded-lockable, flooded-places}
+use Rattle.enumerate.specs.Setups.{position_of}
+use Rattle.enumerate.proofs.TurnLemmas.{flooded-below, flooded-lockable, flooded-places}
 use Rattle.enumerate.proofs.Counting.{counts-one}
 use Rattle.enumerate.proofs.frame.Frame.flood.Goals as goal
 
 pub invariant_of-self : goal.invariant_of-self
-invariant_of-self g c = record {
-  lockable = λ x is. subst (λ p. Lockable (filled c.args.self.now.setup.well) p) (some_same is)
-      (flooded-lockable (flood_table c.args.rules.now) (filled c.args.self.now.setup.well) c.args.drop_mode c.args.piece c.places_of.result c.places_of.ensures.piece c.args.self.now.setup.rows c.places_of.ensures.held);
-  held_below = λ x is. subst (λ p. HeldBelow c.args.self.now.setup.rows p) (some_same is)
-      (flooded-below (flood_table c.args.rules.now) (filled c.args.self.now.setup.well) c.args.drop_mode c.args.piece c.places_of.result c.places_of.ensures.piece c.args.self.now.setup.rows c.places_of.ensures.held);
-  permitted = λ x is. subst (λ p. may_play (queues_in_play c.args.self.now.setup.line.queues) (piece_of p) ≡ true) (some_same is)
-      (subst (λ p. may_play (queues_in_play c.args.self.now.setup.line.queues) p ≡ true) (sym c.places_of.ensures.piece) c.requires.permitted);
-  supplied = λ x is. subst (λ p. IsSupplyAfter c.args.self.now.setup (piece_of p) c.args.next_supply) (some_same is)
-      (subst (λ p. IsSupplyAfter c.args.self.now.setup p c.args.next_supply) (sym c.places_of.ensures.piece) c.requires.supplied);
-  live = λ no. cc;
-  same_piece = λ x is q none. cc;
-}
+invariant_of-self g c =
+    search (rules, some_same, (flooded-lockable (flood_table c.args.rules.now) (filled c.args.self.now.setup.well) c.args.drop_mode c.args.piece c.places_of.result c.places_of.ensures.piece c.args.self.now.setup.rows c.places_of.ensures.held), (flooded-below (flood_table c.args.rules.now) (filled c.args.self.now.setup.well) c.args.drop_mode c.args.piece c.places_of.result c.places_of.ensures.piece c.args.self.now.setup.rows c.places_of.ensures.held))
 
 pub returns-clause-places : goal.returns-clause-places
 unfolding position_of

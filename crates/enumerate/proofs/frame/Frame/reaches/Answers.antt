@@ -1,8 +1,6 @@
 -- The placements that are left rise, so that the search for one ends at it or past it.
 use Rattle.std.proofs.Common.{◌≡◌, ◌∷◌, refl, sym, subst, rules}
 use Rattle.std.specs.Prelude.{Contains, Some}
-use Rattle.std.specs.List.Sorted.{IsStrictlySortedBy}
-use Rattle.srs.specs.Order.{placement_cmp}
 use Rattle.srs.proofs.CallerLemmas.{Contains-here, Contains-none}
 use Rattle.enumerate.specs.Frames.{places_left}
 use Rattle.enumerate.proofs.SkipLemmas.{not_first, past_it, places_left-rising}
@@ -39,11 +37,7 @@ returns-in-Equal c =
 
 pub returns-in-Greater : goal.returns-in-Greater
 returns-in-Greater c =
-    let rises = subst (λ l. IsStrictlySortedBy placement_cmp l) c.in-Some.ensures.next.0 (places_left-rising c.loop-placement.probe.places c.loop-placement.probe.entered) in (
-      λ e. cc,
-      λ among. absurd (past_it c.in-Some.placement c.args.target.now (places_left c.take_upcoming.new.self.places (Some c.in-Some.placement)) rises (sym c.in-Greater.ensures.order)
-          (subst (λ l. Contains l c.args.target.now) c.in-Some.ensures.next.0 (c.loop-placement.invariant.same.1 among))),
-    )
+    search (rules, (places_left-rising c.loop-placement.probe.places c.loop-placement.probe.entered), (past_it c.in-Some.placement c.args.target.now (places_left c.take_upcoming.new.self.places (Some c.in-Some.placement))), c.loop-placement.invariant.same.1)
 
 pub returns : goal.returns
 returns c = search (rules, Contains-none)

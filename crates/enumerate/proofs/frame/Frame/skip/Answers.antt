@@ -1,5 +1,5 @@
 -- What comes before the placement is passed by, and what comes first at the placement itself is its frame or nothing.
-use Rattle.std.proofs.Common.{◌≡◌, refl, sym, subst, ◌∙◌, true, arith}
+use Rattle.std.proofs.Common.{◌≡◌, refl, sym, subst, ◌∙◌, true, arith, rules}
 use Rattle.reach.specs.FloodRules.{flood_table}
 use Rattle.srs.proofs.CallerLemmas.{some_same}
 use Rattle.well.specs.Well.{filled}
@@ -9,7 +9,6 @@ use Rattle.hold_queue.specs.QueueSet.{queues_in_play}
 use Rattle.moves.proofs.CallerLemmas.{is_place-decides}
 use Rattle.enumerate.specs.Frames.{places_left}
 use Rattle.enumerate.specs.Setups.{position_of}
-use Rattle.enumerate.specs.Position.{may_play}
 use Rattle.enumerate.specs.declared.setup.Setup.{Setup}
 use Rattle.enumerate.proofs.PlaceLaws.{place-lockable}
 use Rattle.enumerate.proofs.SkipLemmas.{dead-result, dead-untiled, held-below, held-place, left-above, passes-kind, skips-dead, skips-entered, skips-same, skips-unplaced, unheld-place}
@@ -57,8 +56,7 @@ enter-requires-clause-below g c =
 
 pub enter-requires-clause-permitted : goal.enter-requires-clause-permitted
 enter-requires-clause-permitted g c =
-    subst (λ (s : Setup). may_play (queues_in_play s.line.queues) c.args.target.now.piece ≡ true) (sym c.flood.ensures.same)
-    (may_play-answer (queues_in_play c.args.self.now.setup.line.queues) c.args.target.now.piece c.may_play.result c.may_play.ensures.permitted ∙ c.if-not-may_play.false)
+    search (rules, (may_play-answer (queues_in_play c.args.self.now.setup.line.queues) c.args.target.now.piece c.may_play.result c.may_play.ensures.permitted))
 
 pub returns-in-Entered-clause-skips : goal.returns-in-Entered-clause-skips
 unfolding position_of

@@ -1,5 +1,5 @@
 -- The next held placement is the first of those that are left.
-use Rattle.std.proofs.Common.{refl, sym, ap, ◌∙◌}
+use Rattle.std.proofs.Common.{refl, rules}
 use Rattle.srs.proofs.CallerLemmas.{placements_of-list, some_same}
 use Rattle.well.specs.Well.{filled}
 use Rattle.place_sets.specs.LowPlaces.{piece_of}
@@ -21,5 +21,4 @@ returns-in-Some-clause-next c =
     upcoming-taken c.args.self.now c.in-Some.places c.take_above.new.places c.in-Some.is c.take_above.ensures.piece c.take_above.result c.take_above.ensures.next
 
 pub invariant_of-self-in-Some-clause-same_piece : goal.invariant_of-self-in-Some-clause-same_piece
-invariant_of-self-in-Some-clause-same_piece c = λ x is q entered.
-    c.args.self.now.same_piece c.in-Some.places c.in-Some.is q entered ∙ sym c.take_above.ensures.piece ∙ ap piece_of (some_same is)
+invariant_of-self-in-Some-clause-same_piece c = search (rules, (c.args.self.now.same_piece c.in-Some.places c.in-Some.is), some_same)

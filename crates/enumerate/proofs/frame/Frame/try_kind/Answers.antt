@@ -1,5 +1,5 @@
 -- The next kind, if there is one, is passed or flooded.
-use Rattle.std.proofs.Common.{◌∷◌, refl, sym, ap, ◌∙◌, rules}
+use Rattle.std.proofs.Common.{◌∷◌, sym, ap, ◌∙◌, rules}
 use Rattle.std.specs.Prelude.{drop}
 use Rattle.srs.specs.Piece.{all_pieces}
 use Rattle.reach.specs.FloodRules.{flood_table}
@@ -9,9 +9,8 @@ use Rattle.enumerate.proofs.Counting.{counts-none}
 use Rattle.enumerate.proofs.frame.Frame.try_kind.Goals as goal
 
 pub returns-in-None-clause-turn : goal.returns-in-None-clause-turn
-returns-in-None-clause-turn g c = λ child.
-    let over = goes-over (flood_table c.args.rules.now) c.args.drop_mode c.next_kind.new.self c.in-None.ensures.none c.in-None.ensures.next in
-    (record { same = λ prefix. c.in-None.ensures.goes (flood_table c.args.rules.now) c.args.drop_mode prefix ∙ over.same prefix }, refl)
+returns-in-None-clause-turn g c =
+    search (rules, (goes-over (flood_table c.args.rules.now) c.args.drop_mode c.next_kind.new.self c.in-None.ensures.none c.in-None.ensures.next), (c.in-None.ensures.goes (flood_table c.args.rules.now) c.args.drop_mode))
 
 pub flood-requires-clause-permitted : goal.flood-requires-clause-permitted
 flood-requires-clause-permitted g c = c.in-Some.ensures.next.1
@@ -21,17 +20,8 @@ leave_out_dead-requires g c = c.flood.ensures.piece
 
 pub returns-clause-turn : goal.returns-clause-turn
 unfolding position_of
-returns-clause-turn g c = λ child.
-    let frame = c.next_kind.new.self in
-    let flooded = goes-flooded (flood_table c.args.rules.now) c.args.drop_mode frame c.flood.new.self c.flood.ensures.same c.in-Some.piece c.in-Some.ensures.none
-    (c.in-Some.ensures.next.0 ∙ ap (λ k. c.in-Some.piece ∷ drop k all_pieces) (sym c.flood.ensures.tried))
-    c.in-Some.ensures.next.1
-    c.flood.ensures.places in (
-      record {
-        same = search rules;
-      },
-      c.flood.ensures.counted,
-    )
+returns-clause-turn g c =
+    search (rules, (goes-flooded (flood_table c.args.rules.now) c.args.drop_mode c.next_kind.new.self c.flood.new.self c.flood.ensures.same c.in-Some.piece c.in-Some.ensures.none (c.in-Some.ensures.next.0 ∙ ap (λ k. c.in-Some.piece ∷ drop k all_pieces) (sym c.flood.ensures.tried)) c.in-Some.ensures.next.1 c.flood.ensures.places))
 
 pub returns-clause-same : goal.returns-clause-same
 returns-clause-same g c = c.leave_out_dead.ensures.same ∙ c.flood.ensures.same ∙ c.in-Some.ensures.same

@@ -87,9 +87,7 @@ returns-clause-bounded g c = search (rules, floods-within)
 pub returns-then-self-eq0-clause-next : goal.returns-then-self-eq0-clause-next
 unfolding view_of solutions events_to_come found
 returns-then-self-eq0-clause-next g c =
-    let none = none-used (table_of c.args.self.now.problem.rules) c.args.self.now.problem.drop_mode c.go_on-self.new.frames c.go_on-self.result c.if-self-eq0.true in
-    let empty : solutions c.args.self.now ≡ [] = none-found _ _ _ c.go_on-self.result c.if-self-eq0.true c.go_on-self.ensures.found ∙ ap found none in
-    next-none c.args.self.now.problem (items_of c.args.self.now.queue) (items_of c.args.self.now.bound) (subst (IsList (view_of c.args.self.now)) empty (search-list c.args.self.now))
+    search (rules, (none-used (table_of c.args.self.now.problem.rules) c.args.self.now.problem.drop_mode c.go_on-self.new.frames c.go_on-self.result c.if-self-eq0.true), none-found, (next-none c.args.self.now.problem (items_of c.args.self.now.queue) (items_of c.args.self.now.bound)), (search-list c.args.self.now))
 
 pub returns-clause-next : goal.returns-clause-next
 unfolding view_of solutions events_to_come

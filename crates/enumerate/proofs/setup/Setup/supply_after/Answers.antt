@@ -1,5 +1,5 @@
 -- No kind has more pieces than may come, or as many as placements come are kept.
-use Rattle.std.proofs.Common.{◌≡◌, ◌<◌, ◌≤◌, ℕ, min, sym, ap, ◌∙◌, arith, rules}
+use Rattle.std.proofs.Common.{◌≡◌, ◌<◌, ◌≤◌, ℕ, min, arith, rules}
 use Rattle.std.specs.Prelude.{◌-◌}
 use Rattle.srs.specs.declared.piece.Piece.{Piece}
 use Rattle.prune.specs.Tiling.{Supply}
@@ -13,12 +13,8 @@ unfolding less_one
 with_few supply left most piece other few less = search rules
 
 pub returns-then-self : goal.returns-then-self
-returns-then-self c = record {
-  supplied = c.without_one-supply.ensures;
-  limits = λ other.
-      let setup = c.args.self.now in
-      c.without_one-supply.ensures other ∙ with_few (supply_of setup.supply) setup.left setup.most c.args.piece other (setup.few_of_each other) (omega (arith, c.if-self.true)) ∙ sym (ap (min (setup.left - 1)) (c.without_one-supply.ensures other));
-}
+returns-then-self c =
+    search (rules, c.without_one-supply.ensures, (with_few (supply_of c.args.self.now.supply) c.args.self.now.left c.args.self.now.most c.args.piece), c.args.self.now.few_of_each)
 
 pub returns : goal.returns
 returns c = record { supplied = c.without_one-supply.ensures; limits = λ other. omega (arith, c.at_most.ensures other, c.saturating_sub.ensures) }

@@ -1,5 +1,5 @@
 -- What is limited has one piece fewer after a piece, unless there are more of its kind than the limit.
-use Rattle.std.proofs.Common.{◌≡◌, ◌<◌, ◌≤◌, ℕ, min, ap, ◌∙◌, arith, rules}
+use Rattle.std.proofs.Common.{◌≡◌, ◌<◌, ◌≤◌, ℕ, min, rules}
 use Rattle.srs.specs.declared.piece.Piece.{Piece}
 use Rattle.prune.specs.Tiling.{Supply}
 use Rattle.prune.specs.OnePart.{less_one}
@@ -16,12 +16,8 @@ module _ (supply limited : Supply) (left : ℕ) (piece other : Piece) (is : limi
   with_few few = search rules
 
 pub returns-then-self-count_of : goal.returns-then-self-count_of
-returns-then-self-count_of c = λ other.
-    let setup = c.args.self.now in
-    with_more (supply_of setup.supply) (supply_of setup.limited) setup.left c.args.piece other (setup.limits other) (omega (arith, c.if-self-count_of.true, c.count_of.ensures))
+returns-then-self-count_of c =
+    search (rules, (with_more (supply_of c.args.self.now.supply) (supply_of c.args.self.now.limited) c.args.self.now.left c.args.piece), c.args.self.now.limits)
 
 pub returns : goal.returns
-returns c = λ other.
-    let setup = c.args.self.now in
-    ap (λ supply. supply other) c.without_one.ensures
-    ∙ with_few (supply_of setup.supply) (supply_of setup.limited) setup.left c.args.piece other (setup.limits other) (omega (arith, c.if-self-count_of.false, c.count_of.ensures))
+returns c = search (rules, (with_few (supply_of c.args.self.now.supply) (supply_of c.args.self.now.limited) c.args.self.now.left c.args.piece), c.args.self.now.limits)

@@ -1,5 +1,5 @@
 -- Each turn takes one place out.
-use Rattle.std.proofs.Common.{length, refl, sym, ap, subst, arith}
+use Rattle.std.proofs.Common.{refl, sym, subst, rules}
 use Rattle.std.specs.Prelude.{Contains, Some, None}
 use Rattle.srs.specs.Placements.{placements_of}
 use Rattle.enumerate.proofs.Taken.{Listed, next-first, taken-above, taken-rest}
@@ -9,10 +9,4 @@ pub loop-placement-smaller : goal.loop-placement-smaller
 loop-placement-smaller c =
     let left = c.loop-placement.open in
     let listed : Listed left = λ q is. subst (λ p. Contains (placements_of p) q) (sym c.loop-placement.invariant.same) (c.requires.listed q (c.loop-placement.invariant.held q is)) in
-    let least = c.in-Some.ensures.least in
-    omega (
-      arith,
-      ap length (next-first left listed None (Some c.in-Some.placement) least),
-      ap length (taken-above left c.take_least.new.self c.in-Some.ensures.piece (Some c.in-Some.placement) c.in-Some.ensures.rest c.in-Some.placement refl least),
-      ap length (taken-rest left c.take_least.new.self c.in-Some.ensures.piece (Some c.in-Some.placement) c.in-Some.ensures.rest c.in-Some.placement refl least),
-    )
+    search (rules, (next-first left listed None (Some c.in-Some.placement) c.in-Some.ensures.least), (taken-above left c.take_least.new.self c.in-Some.ensures.piece (Some c.in-Some.placement) c.in-Some.ensures.rest c.in-Some.placement refl c.in-Some.ensures.least), (taken-rest left c.take_least.new.self c.in-Some.ensures.piece (Some c.in-Some.placement) c.in-Some.ensures.rest c.in-Some.placement refl c.in-Some.ensures.least))

@@ -1,5 +1,5 @@
 -- Each turn is a lemma of the search.
-use Rattle.std.proofs.Common.{◌≡◌, ◌++◌, [], ◌∷◌, Some, List, length, sym, ap, subst, ◌∙◌, arith}
+use Rattle.std.proofs.Common.{◌≡◌, ◌++◌, [], ◌∷◌, Some, List, length, sym, ap, subst, ◌∙◌, arith, rules}
 use Rattle.std.proofs.lemmas.List.{length-append}
 use Rattle.srs.specs.declared.placement.Placement.{Placement}
 use Rattle.srs.specs.Rules.{table_of}
@@ -21,11 +21,8 @@ new_state-requires-clause-free c =
     trying_free (table_of c.args.rules.now) (filled c.args.states.now.well) c.args.drop_mode c.args.aim.now c.requires.free c.loop-key.marks.marks c.loop-key.self.waiting.items c.args.state.now c.loop-key.key-index c.loop-key.invariant.0
 
 pub loop-key-preserved-in_default : goal.loop-key-preserved-in_default
-loop-key-preserved-in_default c = (
-  trying_same (table_of c.args.rules.now) (filled c.args.states.now.well) c.args.drop_mode c.args.aim.now c.requires.free c.loop-key.marks.marks c.loop-key.self.waiting.items c.args.state.now c.loop-key.key-index (key_at c.loop-key.key-index)
-      (key_place-at c.loop-key.key-index c.loop-key-test.true) (sym c.new_state.ensures ∙ c.in_default.is) c.loop-key.invariant.0,
-  c.loop-key.invariant.1,
-)
+loop-key-preserved-in_default c =
+    search (rules, (trying_same (table_of c.args.rules.now) (filled c.args.states.now.well) c.args.drop_mode c.args.aim.now c.requires.free c.loop-key.marks.marks c.loop-key.self.waiting.items c.args.state.now c.loop-key.key-index (key_at c.loop-key.key-index) (key_place-at c.loop-key.key-index c.loop-key-test.true) (sym c.new_state.ensures ∙ c.in_default.is) c.loop-key.invariant.0))
 
 pub set-requires : goal.set-requires
 set-requires c =

@@ -1,5 +1,5 @@
 -- Each turn is a lemma of the search.
-use Rattle.std.proofs.Common.{◌≡◌, ◌++◌, [], ◌∷◌, Some, List, length, sym, ap, subst, ◌∙◌, arith}
+use Rattle.std.proofs.Common.{[], ◌∷◌, Some, sym, ap, subst, ◌∙◌, rules}
 use Rattle.std.proofs.lemmas.List.{length-append}
 use Rattle.srs.specs.declared.placement.Placement.{Placement}
 use Rattle.srs.specs.Rules.{table_of}
@@ -14,12 +14,7 @@ use Rattle.key_path.proofs.finder.Finder.word_from.Goals as goal
 
 pub loop-state-init : goal.loop-state-init
 loop-state-init c =
-    let cleared : c.clear.new.self.items ≡ [] = ap (λ (b : Buffer Placement). b.items) c.clear.ensures in
-    let room : c.clear.new.self.capacity ≡ 920 = ap (λ (b : Buffer Placement). b.capacity) c.clear.ensures ∙ c.args.self.now.room in
-    finding_first (table_of c.args.rules.now) (filled c.args.states.now.well) c.args.drop_mode c.args.aim.now c.set.new.self.marks c.push_back.new.self.items c.requires.free c.requires.elsewhere
-    (c.set.ensures ∙ (λ i. with_mark (c.new-marks.ensures i) (c.spawn-start.ensures i) Start))
-    (pushed c.clear.new.self c.push_back.new.self c.spawn-start.result c.push_back.ensures.items (omega (arith, room, length-append c.clear.new.self.items (c.spawn-start.result ∷ []), ap (λ (xs : List Placement). length xs) cleared))
-    ∙ (λ i. cleared i ++ c.spawn-start.ensures i ∷ []))
+    search (rules, (finding_first (table_of c.args.rules.now) (filled c.args.states.now.well) c.args.drop_mode c.args.aim.now c.set.new.self.marks c.push_back.new.self.items c.requires.free c.requires.elsewhere (c.set.ensures ∙ (λ i. with_mark (c.new-marks.ensures i) (c.spawn-start.ensures i) Start))), (pushed c.clear.new.self c.push_back.new.self c.spawn-start.result c.push_back.ensures.items), (length-append c.clear.new.self.items (c.spawn-start.result ∷ [])), c.spawn-start.ensures)
 
 pub press_keys-reached-requires-clause-trying : goal.press_keys-reached-requires-clause-trying
 press_keys-reached-requires-clause-trying c =

@@ -1,5 +1,5 @@
 -- One key back after another.
-use Rattle.std.proofs.Common.{◌++◌, length, reverse, sym, ap, ◌∙◌, arith}
+use Rattle.std.proofs.Common.{◌++◌, length, reverse, sym, ap, ◌∙◌, arith, rules}
 use Rattle.key_path.proofs.MarkLemmas.{one_back, one_passed, passed_few, passed_all, refilled}
 use Rattle.key_path.proofs.marks.Marks.word_to.Goals as goal
 
@@ -13,17 +13,11 @@ push-requires c =
 
 pub loop-from-smaller : goal.loop-from-smaller
 loop-from-smaller c =
-    let few = passed_few c.args.self.now.marks c.loop-from.reached c.in-From.from c.in-From.key c.loop-from.word.items c.requires.traced.keys (sym c.at.ensures ∙ c.in-From.is) (c.loop-from.invariant.1 c.requires.traced) in
-    omega (arith, few, c.requires.traced.few, c.push.ensures.len)
+    search (rules, (passed_few c.args.self.now.marks c.loop-from.reached c.in-From.from c.in-From.key c.loop-from.word.items c.requires.traced.keys (sym c.at.ensures ∙ c.in-From.is) (c.loop-from.invariant.1 c.requires.traced)))
 
 pub loop-from-preserved : goal.loop-from-preserved
 loop-from-preserved c =
-    let marks = c.args.self.now.marks in
-    let at = sym c.at.ensures ∙ c.in-From.is in
-    let way = c.loop-from.invariant.1 c.requires.traced in (
-      (one_back marks c.loop-from.reached c.in-From.from c.in-From.key way.rest at way.traces).pivot,
-      λ traced. one_passed marks c.loop-from.reached c.in-From.from c.in-From.key c.loop-from.word.items c.push.new.self.items traced.keys at c.push.ensures.items (c.loop-from.invariant.1 traced),
-    )
+    search (rules, (one_back c.args.self.now.marks c.loop-from.reached c.in-From.from c.in-From.key (c.loop-from.invariant.1 c.requires.traced).rest (sym c.at.ensures ∙ c.in-From.is) (c.loop-from.invariant.1 c.requires.traced).traces), (one_passed c.args.self.now.marks c.loop-from.reached c.in-From.from c.in-From.key c.loop-from.word.items c.push.new.self.items), c.loop-from.invariant.1)
 
 pub returns : goal.returns
 returns c = λ traced.

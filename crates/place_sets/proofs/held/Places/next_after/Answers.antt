@@ -1,5 +1,5 @@
 -- The first state from the place after the bound is the least one above the bound.
-use Rattle.std.proofs.Common.{ap, arith}
+use Rattle.std.proofs.Common.{ap, rules}
 use Rattle.std.specs.Option.{option_copied}
 use Rattle.place_sets.proofs.ScanLemmas.{next_of_all_by, next_above_by}
 use Rattle.place_sets.proofs.held.Places.next_after.Goals as goal
@@ -8,6 +8,4 @@ pub returns-in-None : goal.returns-in-None
 returns-in-None c = next_of_all_by c.args.self.now (option_copied c.args.bound) c.first_state.result (ap option_copied c.in-None.is) c.first_state.ensures
 
 pub returns-in-Some : goal.returns-in-Some
-returns-in-Some c =
-    next_above_by c.args.self.now (option_copied c.args.bound) c.in-Some.last.now _ c.first_state-in-Some.result (ap option_copied c.in-Some.is) c.requires
-    (record { column = omega arith; row = omega arith }) (omega arith) c.first_state-in-Some.ensures
+returns-in-Some c = search (rules, (next_above_by c.args.self.now (option_copied c.args.bound) c.in-Some.last.now))

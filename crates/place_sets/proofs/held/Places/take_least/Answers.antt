@@ -1,5 +1,5 @@
 -- The least number is taken out.
-use Rattle.std.proofs.Common.{refl, Some, None, arith, rules}
+use Rattle.std.proofs.Common.{refl, Some, None, rules}
 use Rattle.place_sets.specs.Places.{piece_of}
 use Rattle.place_sets.proofs.PlaceNumbers.{first_state-some, first_state-none}
 use Rattle.place_sets.proofs.ScanLemmas.{next_of_all}
@@ -11,9 +11,7 @@ unfolding piece_of
 returns-in-None-clause-piece c = refl
 
 pub returns-in-None-clause-least : goal.returns-in-None-clause-least
-returns-in-None-clause-least c =
-    next_of_all c.args.self.now None
-    (first_state-none c.args.self.now.numbers 0 0 (λ place b a small_b small_a. (λ after. omega arith, λ after. omega arith)) c.in-None.ensures.first)
+returns-in-None-clause-least c = search (rules, (next_of_all c.args.self.now None), (first_state-none c.args.self.now.numbers 0 0))
 
 pub returns-in-None-clause-rest : goal.returns-in-None-clause-rest
 returns-in-None-clause-rest c = taken_none c.args.self.now _ refl c.in-None.ensures.rest
@@ -24,9 +22,7 @@ returns-in-Some-clause-piece c = refl
 
 pub returns-in-Some-clause-least : goal.returns-in-Some-clause-least
 returns-in-Some-clause-least c =
-    next_of_all c.args.self.now (Some c.state_with.result)
-    (first_state-some c.args.self.now.numbers c.args.self.now.piece 0 0 c.in-Some.number c.state_with.result (λ place b a small_b small_a. (λ after. omega arith, λ after. omega arith)) c.in-Some.ensures.first c.state_with.ensures.piece
-    (record { rotation = c.state_with.ensures.rotation; row = c.state_with.ensures.row; column = c.state_with.ensures.column }))
+    search (rules, (next_of_all c.args.self.now (Some c.state_with.result)), (first_state-some c.args.self.now.numbers c.args.self.now.piece 0 0 c.in-Some.number c.state_with.result))
 
 pub returns-in-Some-clause-rest : goal.returns-in-Some-clause-rest
 returns-in-Some-clause-rest c = search (rules, taken_one)

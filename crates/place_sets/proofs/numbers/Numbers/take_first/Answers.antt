@@ -1,5 +1,5 @@
 -- The first word in use has the least number, and loses that bit.
-use Rattle.std.proofs.Common.{get_or, ap, sym, rules}
+use Rattle.std.proofs.Common.{sym, rules}
 use Rattle.std.proofs.lemmas.Bool.{both_ways}
 use Rattle.std.proofs.Math.Bool.{and-true}
 use Rattle.lane_board.proofs.CallerLemmas.{has_bit-zero}
@@ -12,8 +12,7 @@ pub returns-in-None-clause-first : goal.returns-in-None-clause-first
 returns-in-None-clause-first c = no_number_in_use c.args.self.now c.in-None.ensures
 
 pub returns-in-Some-clause-first : goal.returns-in-Some-clause-first
-returns-in-Some-clause-first c =
-    first_in_use c.args.self.now c.in-Some.at c.lowest_bit.result _ c.in-Some.ensures (ap (λ w. get_or c.args.self.now.words w 0) c.from.ensures) c.lowest_bit.ensures.below c.lowest_bit.ensures.lowest
+returns-in-Some-clause-first c = search (rules, (first_in_use c.args.self.now c.in-Some.at c.lowest_bit.result))
 
 pub returns-in-Some-clause-rest : goal.returns-in-Some-clause-rest
 returns-in-Some-clause-rest c = search (rules, without_number)
