@@ -23,4 +23,6 @@ mod WalkSteps
 mod OrderLemmas
 mod PieceLemmas
 mod EightSets
+mod RowOrderLemmas
+mod RowLaws
 pub mod CallerLemmas
