@@ -25,4 +25,5 @@ mod PieceLemmas
 mod EightSets
 mod RowOrderLemmas
 mod RowLaws
+mod MovedOrders
 pub mod CallerLemmas

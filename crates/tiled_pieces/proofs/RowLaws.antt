@@ -44,8 +44,8 @@ module _ (E : Field) (laid : LaidPiece) (more : List LaidPiece) (row : ℕ) wher
 
 -- a row that goes after some pieces has a cell
 has_later : (E : Field) (pieces : List LaidPiece) (row : ℕ) → 0 < gone_after E pieces row → has_row E row ≡ true
-has_later E [] row some = absurd (omega (arith, some))
 unfolding gone_after
+has_later E [] row some = absurd (omega (arith, some))
 has_later E (laid ∷ more) row some = elim (cases_Bool (has_row E row)) [
   | inl has ↦ has
   | inr none ↦ absurd (omega (arith, some, now_gone E laid more row none))

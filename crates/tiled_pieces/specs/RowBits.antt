@@ -1,12 +1,13 @@
 -- Orders of rows as numbers, and pieces that are put in such an order.
-use Rattle.std.specs.Prelude.{ℕ, ◌≡◌, ◌+◌, ◌*◌, ◌<◌, true, IsTrue, List, All, ◌++◌, map}
+use Rattle.std.specs.Prelude.{ℕ, ◌≡◌, ◌+◌, ◌*◌, ◌<◌, Bool, true, IsTrue, List, All, ◌++◌, map}
 use Rattle.lane_board.specs.Field.{Field}
 use Rattle.lane_board.specs.Lanes.{has_bit}
 use Rattle.prune.specs.Tiling.{Supply, Tiling}
 use Rattle.empty_cells.specs.Empties.{all_but}
+use Rattle.tiled_pieces.specs.declared.listed.ListedTiling.{ListedTiling}
 use Rattle.tiled_pieces.specs.declared.row_order.RowOrder.{RowOrder}
-use Rattle.tiled_pieces.specs.TilingLists.{LaidPiece, laid_part}
-use Rattle.tiled_pieces.specs.RowOrders.{HasTurns}
+use Rattle.tiled_pieces.specs.TilingLists.{HasParts, LaidPiece, laid_part}
+use Rattle.tiled_pieces.specs.RowOrders.{CanGo, HasTurns}
 
 -- bit 8 * z + r says that row z has its turn before row r
 pub record Agrees (turn : ℕ → ℕ) (before : ℕ) : Type 0 where
@@ -38,3 +39,7 @@ pub record GoesFrom (order : RowOrder) (path found : List LaidPiece) : Type 0 wh
 pub record Fills (order : RowOrder) (supply : Supply) (E : Field) : Type 0 where
   pub tiling : Tiling (all_but E) 8 supply
   pub follows : Follows order (map laid_part tiling.parts)
+
+-- each tiling is listed, or each whose rows can go one after the other
+pub record ListsThose (is_ordered : Bool) (E : Field) (supply : Supply) (list : List ListedTiling) : Type 0 where
+  pub all : (t : Tiling (all_but E) 8 supply) → (IsTrue is_ordered → CanGo (map laid_part t.parts)) → HasParts list t.parts
