@@ -1,24 +1,26 @@
 -- A tiling that is moved to the side has the same orders of rows.
-use Rattle.std.proofs.Common.{◌≡◌, ℕ, List, [], ◌∷◌, map, ℤ, sym, subst}
+use Rattle.std.proofs.Common.{ℕ, List, [], ◌∷◌, map, ℤ, sym, subst}
 use Rattle.std.specs.Prelude.{All}
 use Rattle.std.proofs.lemmas.List.Elements.{All-cons, All-head, All-nil, All-tail}
 use Rattle.lane_board.specs.Field.{Field}
-use Rattle.prune.specs.Tiling.{Part, Supply, Tiling}
+use Rattle.prune.specs.Tiling.{Part, Supply}
 use Rattle.empty_cells.specs.declared.shifted.Shifted.{Shifted}
 use Rattle.empty_cells.specs.Empties.{all_but}
 use Rattle.empty_cells.specs.ShiftedCells.{shifted_cells}
 use Rattle.empty_cells.specs.Spans.{from_column}
-use Rattle.empty_cells.proofs.CallerLemmas.{InRow, MovedTo, SameRows, counted_tiling, moved_part, same_rows, tiling_there}
+use Rattle.empty_cells.proofs.CallerLemmas.{MovedTo, SameRows, counted_tiling, moved_part, same_rows, tiling_there}
 use Rattle.tiled_pieces.specs.declared.row_order.RowOrder.{RowOrder}
-use Rattle.tiled_pieces.specs.TilingLists.{LaidPiece, laid_part}
+use Rattle.tiled_pieces.specs.TilingLists.{laid_part}
 use Rattle.tiled_pieces.specs.RowOrders.{HasRow, HasTurns}
 use Rattle.tiled_pieces.specs.RowBits.{Fills}
 
 -- parts in the same rows have the same turns
 same_turns : (turn : ℕ → ℕ) (a b : Part) → SameRows a b → HasTurns turn (laid_part a) → HasTurns turn (laid_part b)
-same_turns turn a b same turns = record { before = λ gap row is has. turns.before gap row
-    (record { below = is.below; above = is.above; lower = from is.below is.lower; upper = from is.above is.upper; over = is.over; under = is.under; none = λ there. is.none (to gap there) })
-    (from row has) }
+same_turns turn a b same turns = record {
+  before = λ gap row is has. turns.before gap row
+      (record { below = is.below; above = is.above; lower = from is.below is.lower; upper = from is.above is.upper; over = is.over; under = is.under; none = λ there. is.none (to gap there) })
+      (from row has);
+}
   where
     from : (row : ℕ) → HasRow (laid_part b) row → HasRow (laid_part a) row
     from row has = let there = (same.both row).1 (record { column = has.x; there = has.there }) in record { x = there.column; there = there.there }

@@ -1,14 +1,14 @@
 -- The rows of pieces that are put into a set one after the other can go one before the other.
-use Rattle.std.proofs.Common.{◌≡◌, ◌↔◌, ℕ, suc, ◌+◌, ◌<◌, ◌≤◌, Bool, true, false, if◌then◌else◌, List, [], ◌∷◌, map, sym, ap, subst, ◌∙◌, inl, inr, arith, rules}
+use Rattle.std.proofs.Common.{◌≡◌, ℕ, suc, ◌<◌, ◌≤◌, Bool, true, false, if◌then◌else◌, List, [], ◌∷◌, ap, inl, inr, arith}
 use Rattle.std.specs.Prelude.{All}
 use Rattle.std.specs.List.{Contains}
 use Rattle.std.proofs.lemmas.Bool.{and_parts, both_ways, cases_Bool, false_from_ne_true}
-use Rattle.std.proofs.lemmas.List.Elements.{All-cons, All-contains, All-contains_itself, All-nil, All-weaker}
+use Rattle.std.proofs.lemmas.List.Elements.{All-cons, All-contains, All-nil, All-weaker}
 use Rattle.lane_board.specs.Field.{Field, difference}
 use Rattle.empty_cells.proofs.CallerLemmas.{IsSmall}
 use Rattle.tiled_pieces.specs.TilingLists.{LaidPiece}
-use Rattle.tiled_pieces.specs.Built.{AreBuilt, Fits, IsGone}
-use Rattle.tiled_pieces.specs.RowOrders.{CanGo, HasRow, HasTurns, IsGap}
+use Rattle.tiled_pieces.specs.Built.{AreBuilt, IsGone}
+use Rattle.tiled_pieces.specs.RowOrders.{CanGo, HasTurns}
 use Rattle.tiled_pieces.specs.Words.{has_row}
 use Rattle.tiled_pieces.proofs.LaidLemmas.{left_small}
 use Rattle.tiled_pieces.proofs.RowTests.{any_column, gone_row}
@@ -54,15 +54,21 @@ has_later E (laid ∷ more) row some = elim (cases_Bool (has_row E row)) [
 -- the piece that is put now
 turns_now : (E : Field) (laid : LaidPiece) (more : List LaidPiece) → IsSmall 8 E → ((x y u v z : ℕ) → laid.cells x y ≡ true → laid.cells u v ≡ true → y < z → z < v → IsGone laid.cells z → IsGone E z) →
     ((x y : ℕ) → laid.cells x y ≡ true → E x y ≡ true) → HasTurns (gone_after E (laid ∷ more)) laid
-turns_now E laid more small unbroken inside = record { before = λ gap row is has. omega (arith,
-  now_gone E laid more gap (gone_row E gap (unbroken is.lower.x is.below is.upper.x is.above gap is.lower.there is.upper.there is.over is.under (λ x. false_from_ne_true _ (λ here. is.none (record { x = x; there = here }))))),
-  not_gone E laid more row (row_there E row has.x small (inside has.x row has.there))) }
+turns_now E laid more small unbroken inside = record {
+  before = λ gap row is has. omega (
+    arith,
+    now_gone E laid more gap (gone_row E gap (unbroken is.lower.x is.below is.upper.x is.above gap is.lower.there is.upper.there is.over is.under (λ x. false_from_ne_true _ (λ here. is.none (record { x = x; there = here }))))),
+    not_gone E laid more row (row_there E row has.x small (inside has.x row has.there)),
+  );
+}
 
 -- a piece that is put later
 turns_later : (E : Field) (laid : LaidPiece) (more : List LaidPiece) → IsSmall 8 E → (other : LaidPiece) → HasTurns (gone_after (difference E laid.cells) more) other → HasTurns (gone_after E (laid ∷ more)) other
-turns_later E laid more small other turns = record { before = λ gap row is has.
-    let later = turns.before gap row is has in
-    omega (arith, later, one_more E laid more gap, not_gone E laid more row (was_there row (has_later (difference E laid.cells) more row (omega (arith, later))))) }
+turns_later E laid more small other turns = record {
+  before = λ gap row is has.
+      let later = turns.before gap row is has in
+      omega (arith, later, one_more E laid more gap, not_gone E laid more row (was_there row (has_later (difference E laid.cells) more row (omega (arith, later)))));
+}
   where
     was_there : (row : ℕ) → has_row (difference E laid.cells) row ≡ true → has_row E row ≡ true
     was_there row has = elim (cases_Bool (has_row E row)) [

@@ -1,7 +1,7 @@
 -- Orders of rows as numbers: what one more row or piece brings.
-use Rattle.std.proofs.Common.{Option, Some, None, ◌≡◌, ◌⊎◌, ℕ, ◌+◌, ◌-◌, ◌*◌, ◌/◌, ◌%◌, ◌^◌, ◌<◌, ◌≤◌, Bool, true, false, not, ◌&&◌, ◌||◌, ◌==◌, nat_lt, bit_and, bit_or, List, ◌∷◌, sym, ap, subst, ◌∙◌, inl, inr, arith, rules}
+use Rattle.std.proofs.Common.{Option, Some, None, ◌≡◌, ◌⊎◌, ℕ, ◌+◌, ◌-◌, ◌*◌, ◌/◌, ◌%◌, ◌^◌, ◌<◌, Bool, true, false, not, ◌&&◌, ◌||◌, ◌==◌, nat_lt, bit_and, bit_or, List, ◌∷◌, sym, ap, subst, ◌∙◌, inl, inr, arith, rules}
 use Rattle.std.specs.Prelude.{All, MatchOption}
-use Rattle.std.proofs.lemmas.Bool.{and_from, and_parts, both_ways, cases_eq, cases_lt, eq-eqb}
+use Rattle.std.proofs.lemmas.Bool.{and_parts, both_ways, cases_eq, cases_lt, eq-eqb}
 use Rattle.std.proofs.lemmas.Nat.{and_le_l, shl_whole}
 use Rattle.std.proofs.Math.Bool.{and-true}
 use Rattle.std.proofs.lemmas.List.Elements.{All-head, All-tail}
@@ -12,7 +12,7 @@ use Rattle.srs.specs.declared.piece.Piece.{Piece}
 use Rattle.tiled_pieces.specs.declared.row_order.RowOrder.{RowOrder}
 use Rattle.tiled_pieces.specs.TilingLists.{LaidPiece}
 use Rattle.tiled_pieces.specs.RowOrders.{HasRow, HasTurns, IsGap}
-use Rattle.tiled_pieces.specs.RowBits.{Agrees, CanFollow, Follows, GoBefore, GoesBefore}
+use Rattle.tiled_pieces.specs.RowBits.{Agrees, Follows, GoBefore, GoesBefore}
 use Rattle.tiled_pieces.specs.Words.{field_of, has_row, is_between}
 use Rattle.tiled_pieces.proofs.FitTests.{some_bit, unset}
 use Rattle.tiled_pieces.proofs.PieceLemmas.{field_is}
@@ -49,10 +49,12 @@ pub later_next : (before rows rest less later after row : ℕ) → row < 8 → h
     ((r : ℕ) → r < 8 → has_bit after r ≡ has_bit before (8 * row + r)) → LaterSoFar before rows rest later → LaterSoFar before rows less (bit_or later after)
 later_next before rows rest less later after row low here others are so_far = record {
   left = λ k near bit. so_far.left k near (and_parts (has_bit rest k) _ (sym (others k near) ∙ bit)).0;
-  goes = λ turn z agrees goes. record { each = λ r near bit. elim (either (has_bit later r) (has_bit after r) (sym (has_bit-or later after r) ∙ bit)) [
-    | inl old ↦ (so_far.goes turn z agrees goes).each r near old
-    | inr new ↦ omega (arith, goes.each row low (so_far.left row low here), agrees.each row r low near (sym (are r near) ∙ new))
-  ] };
+  goes = λ turn z agrees goes. record {
+    each = λ r near bit. elim (either (has_bit later r) (has_bit after r) (sym (has_bit-or later after r) ∙ bit)) [
+      | inl old ↦ (so_far.goes turn z agrees goes).each r near old
+      | inr new ↦ omega (arith, goes.each row low (so_far.left row low here), agrees.each row r low near (sym (are r near) ∙ new))
+    ];
+  };
 }
 
 -- no row goes before itself
@@ -89,12 +91,14 @@ byte_at later row z r small low near bit = elim (cases_lt (8 * z + r) (8 * row))
 ]
 
 pub agrees_more : (turn : ℕ → ℕ) (before later row : ℕ) → later < 256 → Agrees turn before → GoesBefore turn row later → Agrees turn (bit_or before (later * 2 ^ (8 * row)))
-agrees_more turn before later row small agrees goes = record { each = λ z r low near bit. elim (either (has_bit before (8 * z + r)) _ (sym (has_bit-or before (later * 2 ^ (8 * row)) (8 * z + r)) ∙ bit)) [
-  | inl old ↦ agrees.each z r low near old
-  | inr new ↦
-      let at = byte_at later row z r small low near new in
-      omega (arith, goes.each r near at.1, ap turn at.0)
-] }
+agrees_more turn before later row small agrees goes = record {
+  each = λ z r low near bit. elim (either (has_bit before (8 * z + r)) _ (sym (has_bit-or before (later * 2 ^ (8 * row)) (8 * z + r)) ∙ bit)) [
+    | inl old ↦ agrees.each z r low near old
+    | inr new ↦
+        let at = byte_at later row z r small low near new in
+        omega (arith, goes.each r near at.1, ap turn at.0)
+  ];
+}
 
 pub agrees_with : (turn : ℕ → ℕ) (before later word row : ℕ) → word ≡ later → later < 256 → row < 8 → Agrees turn before → GoesBefore turn row later → Agrees turn (bit_or before (word * 2 ^ (8 * row) % 18446744073709551616))
 agrees_with turn before later word row is small low agrees goes =
@@ -105,8 +109,12 @@ agrees_with turn before later word row is small low agrees goes =
 -- the gaps of a piece go before its rows
 pub piece_goes : (E : Field) (piece : Piece) (n rows gaps : ℕ) (turn : ℕ → ℕ) → n < 2 ^ 80 → ((x y : ℕ) → E x y ≡ (nat_lt y 8 && has_bit n (8 * x + y))) → ((y : ℕ) → y < 8 → has_bit rows y ≡ has_row (field_of n) y) →
     ((z : ℕ) → z < 8 → has_bit gaps z ≡ is_between (has_bit rows) z) → HasTurns turn (record { piece = piece; cells = E }) → GoBefore turn gaps rows
-piece_goes E piece n rows gaps turn small cells in_rows between turns = record { each = λ z low gap. record { each = λ r near row. turns.before z r
-    (is_gap z (between_some (has_row (field_of n)) z (sym (between_same (has_bit rows) (has_row (field_of n)) z low in_rows) ∙ sym (between z low) ∙ gap))) (row_at r (sym (in_rows r near) ∙ row)) } }
+piece_goes E piece n rows gaps turn small cells in_rows between turns = record {
+  each = λ z low gap. record {
+    each = λ r near row. turns.before z r
+        (is_gap z (between_some (has_row (field_of n)) z (sym (between_same (has_bit rows) (has_row (field_of n)) z low in_rows) ∙ sym (between z low) ∙ gap))) (row_at r (sym (in_rows r near) ∙ row));
+  };
+}
   where
     laid : LaidPiece
     laid = record { piece = piece; cells = E }

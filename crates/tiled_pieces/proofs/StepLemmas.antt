@@ -72,8 +72,10 @@ leaves_adds supply E left piece a b c d taken is pushed items_b full_b follows a
 }
   where
     from : (found : List LaidPiece) → GoesFrom a.order (path_of a.path) found → GoesFrom b.order (path_of b.path) found
-    from found goes = record { follows = λ more found_is. follows piece more (goes.follows (record { piece = piece; cells = taken } ∷ more)
-        (found_is ∙ ap (λ path. path ++ more) pushed ∙ append_assoc (path_of a.path) (record { piece = piece; cells = taken } ∷ []) more)) }
+    from found goes = record {
+      follows = λ more found_is. follows piece more (goes.follows (record { piece = piece; cells = taken } ∷ more)
+          (found_is ∙ ap (λ path. path ++ more) pushed ∙ append_assoc (path_of a.path) (record { piece = piece; cells = taken } ∷ []) more));
+    }
 
     longer : path_of b.path ≡ path_of a.path ++ record { piece = piece; cells = difference E left } ∷ []
     longer = pushed ∙ ap (λ (cells : Field). path_of a.path ++ record { piece = piece; cells = cells } ∷ []) is

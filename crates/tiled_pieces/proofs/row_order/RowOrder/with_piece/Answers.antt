@@ -1,5 +1,4 @@
 -- The gaps of the piece go before its rows.
-use Rattle.std.proofs.Common.{◌∷◌, sym}
 use Rattle.empty_cells.specs.Empties.{empty_cells}
 use Rattle.tiled_pieces.proofs.RowOrderLemmas.{follows_piece, follows_tail, kept_there, piece_goes}
 use Rattle.tiled_pieces.proofs.row_order.RowOrder.with_piece.Goals as goal
