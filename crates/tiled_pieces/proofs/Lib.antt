@@ -26,4 +26,5 @@ mod EightSets
 mod RowOrderLemmas
 mod RowLaws
 mod MovedOrders
+mod OrderedLaws
 pub mod CallerLemmas
