@@ -6,9 +6,10 @@ pub use Rattle.empty_cells.proofs.FillLemmas.{PartOf, StackOf, empty_is, empty_w
 pub use Rattle.empty_cells.proofs.FormLemmas.{form, form_at, form_of_place, form_within, rotation_at}
 pub use Rattle.empty_cells.proofs.HasTilingLemmas.{answer-from_right, right-from_answer, tiling_decided}
 pub use Rattle.empty_cells.proofs.Mirrors.{both_tiled}
-pub use Rattle.empty_cells.proofs.MovedTilings.{both_moved, first_moved}
+pub use Rattle.empty_cells.proofs.MovedRows.{InRow, SameRows, same_rows}
+pub use Rattle.empty_cells.proofs.MovedTilings.{MovedTo, both_moved, first_moved, moved_part}
 pub use Rattle.empty_cells.proofs.RowLemmas.{bit_from_may, may_from_bit, was_unset}
 pub use Rattle.empty_cells.proofs.SameTilings.{left_by_placement, tiling_below}
-pub use Rattle.empty_cells.proofs.ShiftedLemmas.{shifted_small}
+pub use Rattle.empty_cells.proofs.ShiftedLemmas.{counted_tiling, shifted_small, tiling_there}
 pub use Rattle.empty_cells.proofs.StackLemmas.{Chosen, IsSmall, Rises, some_in_span}
 pub use Rattle.empty_cells.proofs.SupplyLemmas.{fewer, total}

@@ -14,6 +14,7 @@ mod ChosenLemmas
 mod FormLemmas
 mod FillLemmas
 mod MovedTilings
+mod MovedRows
 mod ShiftedLemmas
 mod PlacedBits
 mod SameTilings

@@ -22,10 +22,10 @@ use Rattle.empty_cells.proofs.FillLemmas.{empty_is}
 use Rattle.empty_cells.proofs.StackLemmas.{IsSmall}
 
 -- a cell, and a part, so many columns further to the right
-moved_cell : ℤ → Cell → Cell
+unfoldable pub moved_cell : ℤ → Cell → Cell
 moved_cell k cell = (cell.0 +ℤ k, cell.1)
 
-moved_part : ℤ → Part → Part
+unfoldable pub moved_part : ℤ → Part → Part
 moved_part k part = record { piece = part.piece; cells = map (moved_cell k) part.cells }
 
 -- a part that is moved is a generalized piece
@@ -82,11 +82,17 @@ moved_tiling F G k supply same t = record {
   supplied = λ piece. omega (arith, ap (λ f. f piece) (kinds_moved (neg_ℤ k) t.parts), t.supplied piece);
 }
 
+-- a tiling whose parts are these, so many columns further to the right
+pub record MovedTo (F : Field) (supply : Supply) (parts : List Part) : Type 0 where
+  pub move : ℤ
+  pub tiling : Tiling F 8 supply
+  pub are : tiling.parts ≡ map (moved_part move) parts
+
 no_row : (F : Field) (column : ℤ) (b : ℕ) → is_empty_below F 8 (column, negsuc b) ≡ false
 unfolding is_empty_below
 no_row F column b = search rules
 
-no_column : (F : Field) (a b : ℕ) → is_empty_below F 8 (negsuc a, pos b) ≡ false
+pub no_column : (F : Field) (a b : ℕ) → is_empty_below F 8 (negsuc a, pos b) ≡ false
 unfolding is_empty_below
 no_column F a b = refl
 
@@ -99,6 +105,15 @@ module _ (E : Field) (x : ℕ) (small : IsSmall 8 E) (none : (a b : ℕ) → a <
   same_back : (cell : Cell) → is_empty_below (all_but E) 8 cell ≡ is_empty_below (all_but (from_column x E)) 8 (moved_cell (neg_ℤ (pos x)) cell)
   unfolding moved_cell
   same_back cell = search (rules, (cell.0 +ℤ neg_ℤ (pos x)), (same_empty (moved_cell (neg_ℤ (pos x)) cell)))
+
+  -- a tiling of one, and the same to the side
+  pub moved_from : (supply : Supply) (t : Tiling (all_but E) 8 supply) → MovedTo (all_but (from_column x E)) supply t.parts
+  unfolding moved_tiling
+  moved_from supply t = record { move = neg_ℤ (pos x); tiling = moved_tiling (all_but (from_column x E)) (all_but E) (pos x) supply same_empty t; are = refl }
+
+  pub moved_back : (supply : Supply) (t : Tiling (all_but (from_column x E)) 8 supply) → MovedTo (all_but E) supply t.parts
+  unfolding moved_tiling
+  moved_back supply t = record { move = neg_ℤ (neg_ℤ (pos x)); tiling = moved_tiling (all_but E) (all_but (from_column x E)) (neg_ℤ (pos x)) supply same_back t; are = refl }
 
   -- both have a tiling, or none has
   pub both_moved : (supply : Supply) → Tiling (all_but (from_column x E)) 8 supply ↔ Tiling (all_but E) 8 supply

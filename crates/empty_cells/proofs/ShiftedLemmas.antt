@@ -12,7 +12,7 @@ use Rattle.empty_cells.specs.Empties.{all_but, empty_cells}
 use Rattle.empty_cells.specs.ShiftedCells.{shifted_cells, to_column}
 use Rattle.empty_cells.specs.Spans.{columns_of, from_column, has_span, without_span, HasNoCell, IsFirst}
 use Rattle.empty_cells.proofs.EmptiesLemmas.{cells_small}
-use Rattle.empty_cells.proofs.MovedTilings.{both_moved}
+use Rattle.empty_cells.proofs.MovedTilings.{MovedTo, both_moved, moved_back, moved_from}
 use Rattle.empty_cells.proofs.StackLemmas.{IsSmall}
 
 -- no column before the first one
@@ -66,3 +66,10 @@ shifted_small s = search (rules, (leb-true s.x), and_parts, s.within, (cells_sma
 pub tiled_there : (s : Shifted) (supply : Supply) → Tiling (all_but (empty_cells s.cells)) 8 supply ↔ Tiling (all_but (shifted_cells s)) 8 supply
 tiled_there s supply = subst (λ (E : Field). Tiling (all_but E) 8 supply ↔ Tiling (all_but (shifted_cells s)) 8 supply) (back_from s.x (empty_cells s.cells))
     (both_moved (shifted_cells s) s.x (shifted_small s) (λ a b before. none_before s.x (empty_cells s.cells) a b before) supply)
+
+-- a tiling of these cells, and the same with the columns counted from that one
+pub counted_tiling : (s : Shifted) (supply : Supply) (t : Tiling (all_but (shifted_cells s)) 8 supply) → MovedTo (all_but (from_column s.x (shifted_cells s))) supply t.parts
+counted_tiling s supply t = moved_from (shifted_cells s) s.x (shifted_small s) (λ a b before. none_before s.x (empty_cells s.cells) a b before) supply t
+
+pub tiling_there : (s : Shifted) (supply : Supply) (t : Tiling (all_but (from_column s.x (shifted_cells s))) 8 supply) → MovedTo (all_but (shifted_cells s)) supply t.parts
+tiling_there s supply t = moved_back (shifted_cells s) s.x (shifted_small s) (λ a b before. none_before s.x (empty_cells s.cells) a b before) supply t

@@ -17,11 +17,11 @@ pub struct Shifted {
 }
 
 impl Shifted {
-    ghost use Rattle.std.specs.Prelude.{◌<◌, ◌↔◌, IsTrue, MatchOption};
+    ghost use Rattle.std.specs.Prelude.{◌<◌, IsTrue, MatchOption};
     ghost use Rattle.lane_board.specs.Lanes.{has_bit};
-    ghost use Rattle.prune.specs.Tiling.{Supply, Tiling};
+    ghost use Rattle.prune.specs.Tiling.{Tiling};
     ghost use Rattle.empty_cells.specs.Empties.{all_but};
-    ghost use Rattle.empty_cells.specs.Spans.{has_span, without_span, HasNoCell, IsFirst};
+    ghost use Rattle.empty_cells.specs.Spans.{from_column, has_span, without_span, HasNoCell, IsFirst};
     ghost use Rattle.empty_cells.specs.ShiftedCells.{shifted_cells};
     ghost use Rattle.empty_cells.specs.SupplyWords.{supply_of};
 
@@ -61,11 +61,10 @@ impl Shifted {
         self.cells.to_column(self.x)
     }
 
-    /// The set with its columns counted from that one, which has a tiling exactly if the same cells in their columns do.
+    /// The set with its columns counted from that one.
     #[inline(always)]
     pub fn counted(&self) -> Empties
-        ensures { (supply : Supply) → Tiling (all_but (empty_cells result)) 8 supply
-            ↔ Tiling (all_but (shifted_cells self.now)) 8 supply }
+        ensures { empty_cells result ≡ from_column self.now.x (shifted_cells self.now) }
     {
         self.cells
     }

@@ -76,7 +76,7 @@ record Split (parts : List Part) (cell : Cell) : Type 1 where
   pub part : Part
   pub rest : List Part
   pub has : is_among part.cells cell ≡ true
-  pub generalized : All IsGeneralized parts → IsGeneralized part × All IsGeneralized rest
+  pub back : (P : Part → Type 0) → All P parts → P part × All P rest
   pub covered : (c : Cell) → covers parts c ≡ count_in part.cells c + covers rest c
   pub counted : (piece : Piece) → parts_of parts piece ≡ cond (piece_code part.piece == piece_code piece) 1 0 + parts_of rest piece
   pub others : (P : Part → Type 0) → P part → All P rest → All P parts
@@ -89,7 +89,7 @@ split (part ∷ parts) cell some = elim (cases_Bool (is_among part.cells cell)) 
     part = part;
     rest = parts;
     has = has;
-    generalized = λ all. (All-head IsGeneralized part parts all, All-tail IsGeneralized part parts all);
+    back = λ P all. (All-head P part parts all, All-tail P part parts all);
     covered = λ c. covers-cons part parts c;
     counted = λ piece. parts_of-cons part parts piece;
     others = λ P here all. All-cons P part parts here all;
@@ -100,7 +100,7 @@ split (part ∷ parts) cell some = elim (cases_Bool (is_among part.cells cell)) 
         part = old.part;
         rest = part ∷ old.rest;
         has = old.has;
-        generalized = λ all. let below = old.generalized (All-tail IsGeneralized part parts all) in (below.0, All-cons IsGeneralized part old.rest (All-head IsGeneralized part parts all) below.1);
+        back = λ P all. let below = old.back P (All-tail P part parts all) in (below.0, All-cons P part old.rest (All-head P part parts all) below.1);
         covered = λ c. omega (arith, covers-cons part parts c, covers-cons part old.rest c, old.covered c);
         counted = λ piece. omega (arith, parts_of-cons part parts piece, parts_of-cons part old.rest piece, old.counted piece);
         others = λ P here all. All-cons P part parts (All-head P part old.rest all) (old.others P here (All-tail P part old.rest all));
@@ -116,6 +116,7 @@ pub record TakenPart (F : Field) (rows : ℕ) (supply : Supply) (cell : Cell) (p
   pub some : 1 ≤ supply part.piece
   pub rest : Tiling (with_cells F part.cells) rows (less_one supply part.piece)
   pub others : (P : Part → Type 0) → P part → All P rest.parts → All P parts
+  pub back : (P : Part → Type 0) → All P parts → P part × All P rest.parts
 
 -- each empty cell stands in a part, and without it there is a tiling of what it leaves with one piece fewer
 pub taken_part : (F : Field) (rows : ℕ) (supply : Supply) (cell : Cell) → is_empty_below F rows cell ≡ true → (t : Tiling F rows supply) → TakenPart F rows supply cell t.parts
@@ -125,12 +126,13 @@ taken_part F rows supply cell here t = taken (split t.parts cell (omega (arith, 
     taken : Split t.parts cell → TakenPart F rows supply cell t.parts
     taken s = record {
       part = s.part;
-      generalized = (s.generalized t.generalized).0;
+      generalized = (s.back IsGeneralized t.generalized).0;
       has = s.has;
       empty = list_all-from_is_among (is_empty_below F rows) s.part.cells empty;
       some = omega (arith, s.counted s.part.piece, t.supplied s.part.piece, cond-true {A = ℕ} _ 1 0 (eq-eqb (piece_code s.part.piece) (piece_code s.part.piece) refl));
       rest = search (rules, is_empty-with_cells, covered, supplied);
       others = s.others;
+      back = s.back;
     }
       where
         empty : (c : Cell) → is_among s.part.cells c ≡ true → is_empty_below F rows c ≡ true

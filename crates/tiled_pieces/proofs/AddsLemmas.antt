@@ -1,5 +1,5 @@
 -- What comes to a list, one step after the other.
-use Rattle.std.proofs.Common.{◌≡◌, ◌⊎◌, ℕ, ◌+◌, ◌<◌, bit_and, Bool, true, false, not, ◌&&◌, ◌==◌, nat_le, List, [], ◌∷◌, ◌++◌, sym, subst, ◌∙◌, inl, inr, rules}
+use Rattle.std.proofs.Common.{◌≡◌, ◌⊎◌, ℕ, ◌+◌, ◌<◌, bit_and, Bool, true, false, not, ◌&&◌, ◌==◌, nat_le, List, [], ◌∷◌, ◌++◌, sym, ap, subst, ◌∙◌, inl, inr, rules}
 use Rattle.std.specs.List.{Contains}
 use Rattle.std.proofs.lemmas.Bool.{and_parts, both_ways, cases_eq, ne_eqb, eq-eqb, false_from_ne_true}
 use Rattle.std.proofs.lemmas.List.{append-nil, append_assoc}
@@ -15,6 +15,7 @@ use Rattle.empty_cells.proofs.CallerLemmas.{IsSmall, bit_from_may, may_from_bit,
 use Rattle.tiled_pieces.specs.declared.listed.ListedTiling.{ListedTiling}
 use Rattle.tiled_pieces.specs.declared.listing.Listing.{Listing}
 use Rattle.tiled_pieces.specs.TilingLists.{LaidPiece}
+use Rattle.tiled_pieces.specs.RowBits.{GoesFrom}
 use Rattle.tiled_pieces.specs.Listings.{Adds, Lies, Lists, path_of}
 use Rattle.tiled_pieces.proofs.ListedLemmas.{none_listed}
 
@@ -29,16 +30,36 @@ not_full x y implied room = false_from_ne_true x (λ is. both_ways y room (impli
 pub adds_none : (list : Listing) (Least Most : Fact) → ((path found : List LaidPiece) → Least path found → ⊥) → Adds list list Least Most
 adds_none list Least Most none = search (rules, append-nil, none_listed)
 
+-- or where what could be found cannot follow
+pub adds_none_here : (list : Listing) (Least Most : Fact) → ((found : List LaidPiece) → GoesFrom list.order (path_of list.path) found → Least (path_of list.path) found → ⊥) → Adds list list Least Most
+adds_none_here list Least Most none = search (rules, append-nil, none_listed)
+
 -- or where the list is full
-pub adds_full : (old new : Listing) (Least Most : Fact) → new.tilings.items ≡ old.tilings.items → path_of new.path ≡ path_of old.path → new.is_full ≡ true → Adds old new Least Most
-adds_full old new Least Most same path full = search (rules, append-nil, both_ways, none_listed)
+pub adds_full : (old new : Listing) (Least Most : Fact) → new.tilings.items ≡ old.tilings.items → path_of new.path ≡ path_of old.path → new.order ≡ old.order → new.is_full ≡ true → Adds old new Least Most
+adds_full old new Least Most same path order full = search (rules, append-nil, both_ways, none_listed)
 
 -- one step and then another one
 pub adds_then : (a b c : Listing) (Least More Most : Fact) → Adds a b Least Most → Adds b c More Most → Adds a c (λ path found. Least path found ⊎ More path found) Most
-adds_then a b c Least More Most first second = search (rules, append_assoc, gained, only)
+adds_then a b c Least More Most first second = record {
+  more = first.more ++ second.more;
+  longer = second.longer ∙ ap (λ l. l ++ second.more) first.longer ∙ append_assoc a.tilings.items first.more second.more;
+  path = second.path ∙ first.path;
+  order = second.order ∙ first.order;
+  full = λ full. second.full (first.full full);
+  gained = gained;
+  only = only;
+}
   where
-    gained : c.is_full ≡ false → (found : List LaidPiece) → Least (path_of a.path) found ⊎ More (path_of a.path) found → Lists (first.more ++ second.more) found
-    gained room found h2 = search (rules, not_full, Contains-append_left, Contains-append_right)
+    from : (found : List LaidPiece) → GoesFrom a.order (path_of a.path) found → GoesFrom b.order (path_of b.path) found
+    from found goes = subst (λ order. GoesFrom order (path_of b.path) found) (sym first.order) (subst (λ path. GoesFrom a.order path found) (sym first.path) goes)
+
+    gained : c.is_full ≡ false → (found : List LaidPiece) → GoesFrom a.order (path_of a.path) found → Least (path_of a.path) found ⊎ More (path_of a.path) found → Lists (first.more ++ second.more) found
+    gained room found goes (inl least) =
+        let l = first.gained (not_full b.is_full c.is_full second.full room) found goes least in
+        record { tiling = l.tiling; listed = Contains-append_left first.more second.more l.tiling l.listed; spells = l.spells }
+    gained room found goes (inr more) =
+        let l = second.gained room found (from found goes) (subst (λ path. More path found) (sym first.path) more) in
+        record { tiling = l.tiling; listed = Contains-append_right first.more second.more l.tiling l.listed; spells = l.spells }
 
     only : (tiling : ListedTiling) → Contains (first.more ++ second.more) tiling → Lies (Most (path_of a.path)) tiling
     only tiling listed = elim (Contains-append_cases first.more second.more tiling listed) [
@@ -51,8 +72,9 @@ adds_as old new Least Most Less More least most adds = record {
   more = adds.more;
   longer = adds.longer;
   path = adds.path;
+  order = adds.order;
   full = adds.full;
-  gained = λ room found less. adds.gained room found (least _ found less);
+  gained = λ room found goes less. adds.gained room found goes (least _ found less);
   only = λ tiling listed. let l = adds.only tiling listed in record { found = l.found; spells = l.spells; most = most _ l.found l.most };
 }
 

@@ -5,7 +5,7 @@ use Rattle.std.proofs.Math.Path.{fun_ext}
 use Rattle.std.specs.List.{Contains}
 use Rattle.std.proofs.lemmas.Bool.{cases_Bool, cases_eq, cases_lt, and_parts, both_ways, false≢true}
 use Rattle.std.proofs.lemmas.List.{append_assoc}
-use Rattle.std.proofs.lemmas.List.Elements.{All-nil, All-weaker, Contains-append_left, Contains-append_right}
+use Rattle.std.proofs.lemmas.List.Elements.{All-cons, All-contains, All-contains_itself, All-head, All-map, All-nil, All-tail, All-weaker, Contains-append_left, Contains-append_right}
 use Rattle.lane_board.specs.Field.{Field, difference}
 use Rattle.srs.specs.declared.piece.Piece.{Piece}
 use Rattle.srs.specs.Cells.{Cell}
@@ -115,6 +115,7 @@ pub record InOrder (supply : Supply) (E : Field) (parts : List Part) : Type 0 wh
   pub laid : List LaidPiece
   pub are : AreLaid HasFirst supply E laid
   pub all : All (λ part. Contains laid (laid_part part)) parts
+  pub only : All (Contains (map laid_part parts)) laid
 
 has_from_empty : (E : Field) (cell : Cell) → IsSmall 8 E → is_empty_below (all_but E) 8 cell ≡ true → has_cell E cell ≡ true
 unfolding is_empty_below
@@ -129,6 +130,11 @@ rest_of E supply cell parts p = record {
   supplied = p.rest.supplied;
 }
 
+all_back : (P : LaidPiece → Type 0) (parts : List Part) → All P (map laid_part parts) → All (λ part. P (laid_part part)) parts
+all_back P [] all = All-nil (λ part. P (laid_part part))
+all_back P (part ∷ parts) all = All-cons (λ part. P (laid_part part)) part parts (All-head P (laid_part part) (map laid_part parts) all)
+    (all_back P parts (All-tail P (laid_part part) (map laid_part parts) all))
+
 lay_first : (supply : Supply) (E : Field) (parts : List Part) → IsSmall 8 E → (f : FirstOf E) (p : TakenPart (all_but E) 8 supply (pos f.x, pos f.y) parts) → InOrder (less_one supply p.part.piece) (left_by_part E p.part) p.rest.parts → InOrder supply E parts
 unfolding AreLaid
 lay_first supply E parts small f p later = record {
@@ -136,7 +142,13 @@ lay_first supply E parts small f p later = record {
   are = search (rules, list_all-from_is_among, has_from_empty, is_among-all, one_first);
   all = p.others (λ part. Contains (laid_part p.part ∷ later.laid) (laid_part part)) (Contains-append_left (laid_part p.part ∷ []) later.laid (laid_part p.part) (0, omega arith, refl))
       (All-weaker (λ part. Contains later.laid (laid_part part)) (λ part. Contains (laid_part p.part ∷ later.laid) (laid_part part)) (λ part. Contains-append_right (laid_part p.part ∷ []) later.laid (laid_part part)) p.rest.parts later.all);
+  only = All-cons (Contains (map laid_part parts)) (laid_part p.part) later.laid among.0
+      (All-weaker (Contains (map laid_part p.rest.parts)) (Contains (map laid_part parts)) (λ laid there. All-contains (Contains (map laid_part parts)) (map laid_part p.rest.parts) laid
+      (All-map (Contains (map laid_part parts)) laid_part p.rest.parts among.1) there) later.laid later.only);
 }
+  where
+    among : Contains (map laid_part parts) (laid_part p.part) × All (λ part. Contains (map laid_part parts) (laid_part part)) p.rest.parts
+    among = p.back (λ part. Contains (map laid_part parts) (laid_part part)) (all_back (Contains (map laid_part parts)) parts (All-contains_itself (map laid_part parts)))
 
 lay_none : (supply : Supply) (E : Field) → IsSmall 8 E → HasNoCell E → (t : Tiling (all_but E) 8 supply) → InOrder supply E t.parts
 unfolding AreLaid
@@ -144,6 +156,7 @@ lay_none supply E small none t = record {
   laid = [];
   are = none;
   all = subst (λ parts. All (λ part. Contains [] (laid_part part)) parts) (sym (no_parts (all_but E) 8 supply (none_empty E small none) t)) (All-nil (λ part. Contains [] (laid_part part)));
+  only = All-nil (Contains (map laid_part t.parts));
 }
 
 -- each tiling can be laid so

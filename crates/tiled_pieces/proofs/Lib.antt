@@ -23,4 +23,8 @@ mod WalkSteps
 mod OrderLemmas
 mod PieceLemmas
 mod EightSets
+mod RowOrderLemmas
+mod RowLaws
+mod MovedOrders
+mod OrderedLaws
 pub mod CallerLemmas

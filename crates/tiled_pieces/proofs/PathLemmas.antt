@@ -93,13 +93,14 @@ unfolding path_of
 spells_path path = search (rules, length-map-range_with_len, cases_lt, get_or-map-range_with_len, get_or_past)
 
 -- the path is added as a tiling
-pub adds_path : (old new : Listing) → new.path ≡ old.path → new.is_full ≡ old.is_full → new.tilings.items ≡ old.tilings.items ++ old.path.tiling ∷ [] → Adds old new (λ path found. found ≡ path) (λ path found. found ≡ path)
-adds_path old new path full longer = record {
+pub adds_path : (old new : Listing) → new.path ≡ old.path → new.order ≡ old.order → new.is_full ≡ old.is_full → new.tilings.items ≡ old.tilings.items ++ old.path.tiling ∷ [] → Adds old new (λ path found. found ≡ path) (λ path found. found ≡ path)
+adds_path old new path order full longer = record {
   more = old.path.tiling ∷ [];
   longer = longer;
   path = ap path_of path;
+  order = order;
   full = λ is. full ∙ is;
-  gained = λ _ found is. record { tiling = old.path.tiling; listed = (0, omega arith, refl); spells = subst (Spells old.path.tiling) (sym is) (spells_path old.path) };
+  gained = λ _ found goes is. record { tiling = old.path.tiling; listed = (0, omega arith, refl); spells = subst (Spells old.path.tiling) (sym is) (spells_path old.path) };
   only = λ tiling listed. record { found = path_of old.path; spells = subst (λ t. Spells t (path_of old.path)) (one_listed old.path.tiling tiling listed) (spells_path old.path); most = refl };
 }
   where

@@ -25,7 +25,7 @@ any_some test (x ∷ xs) e = elim (cases_Bool (test x)) [
 any_eight : (test : ℕ → Bool) (y : ℕ) → y < 8 → test y ≡ true → list_any test eight ≡ true
 any_eight test y low here = list_any_at test eight y 0 low (ap test {x = get_or eight y 0} {y = y} (get_or-range_with_len 0 8 y 0 low ∙ omega arith) ∙ here)
 
-any_column : (test : ℕ → Bool) (x : ℕ) → x < 10 → test x ≡ true → list_any test columns ≡ true
+pub any_column : (test : ℕ → Bool) (x : ℕ) → x < 10 → test x ≡ true → list_any test columns ≡ true
 any_column test x near here = list_any_at test columns x 0 near (ap test (column_is x near) ∙ here)
 
 -- what is known of a cell of a set

@@ -18,6 +18,7 @@ use Rattle.tiled_pieces.specs.declared.listed.ListedTiling.{ListedTiling}
 use Rattle.tiled_pieces.specs.declared.listing.Listing.{Listing}
 use Rattle.tiled_pieces.specs.declared.path.Path.{Path}
 use Rattle.tiled_pieces.specs.TilingLists.{LaidPiece, laid_at, laid_part}
+use Rattle.tiled_pieces.specs.RowBits.{GoesFrom}
 
 -- no piece, as at the indexes of a listed tiling past its last one
 abbrev pub no_piece : LaidPiece
@@ -105,12 +106,14 @@ pub record Lies (Most : List LaidPiece → Type 0) (tiling : ListedTiling) : Typ
   pub spells : Spells tiling found
   pub most : Most found
 
--- To a list come tilings: unless it is full, all for which one fact holds of the path and their pieces, and none but
--- those for which another one does. The path stays.
+-- To a list come tilings: unless it is full, all whose further pieces can follow and for which one fact holds of the path
+-- and their pieces, and none but those for which another one does. The path and the order stay.
 pub record Adds (old new : Listing) (Least Most : List LaidPiece → List LaidPiece → Type 0) : Type 0 where
   pub more : List ListedTiling
   pub longer : new.tilings.items ≡ old.tilings.items ++ more
   pub path : path_of new.path ≡ path_of old.path
+  pub order : new.order ≡ old.order
   pub full : old.is_full ≡ true → new.is_full ≡ true
-  pub gained : new.is_full ≡ false → (found : List LaidPiece) → Least (path_of old.path) found → Lists more found
+  pub gained : new.is_full ≡ false → (found : List LaidPiece) → GoesFrom old.order (path_of old.path) found
+      → Least (path_of old.path) found → Lists more found
   pub only : (tiling : ListedTiling) → Contains more tiling → Lies (Most (path_of old.path)) tiling

@@ -12,6 +12,7 @@ mod listed;
 mod lister;
 mod listing;
 mod path;
+mod row_order;
 mod standing;
 mod walk;
 mod words;

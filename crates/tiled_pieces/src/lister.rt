@@ -8,6 +8,8 @@ ghost use Rattle.empty_cells.specs.Empties.{empty_cells};
 ghost use Rattle.empty_cells.specs.ShiftedCells.{shifted_cells};
 ghost use Rattle.empty_cells.specs.Spans.{IsFirst};
 ghost use Rattle.empty_cells.specs.SupplyWords.{supply_of};
+ghost use Rattle.tiled_pieces.specs.RowOrders.{ListsOrdered};
+ghost use Rattle.tiled_pieces.specs.RowBits.{ListsThose};
 ghost use Rattle.tiled_pieces.specs.TilingLists.{ListsAll, ListsOnly, SomeHas, StandsInTiling, laid_placement};
 ghost use Rattle.tiled_pieces.specs.Listings.{Adds, GoesOn, GoesOnWith, HasFirst, IsAny, StacksSome, StacksUp, TakesFirst};
 
@@ -50,7 +52,7 @@ impl Lister {
     pub fn new(alloc: Global) -> Lister {
         Lister {
             known: FactTable::within_memory(alloc, PLACES),
-            listing: Listing::new(alloc, 0),
+            listing: Listing::new(alloc, 0, false),
         }
     }
 
@@ -72,7 +74,41 @@ impl Lister {
             → SomeHas list.tilings.items (laid_placement m)
             ↔ StandsInTiling (empty_cells cells.now) (supply_in supply.now) m) }
     {
-        self.listing = Listing::new(alloc, most);
+        self.list(alloc, cells, supply, most, false)
+    }
+
+    /// The same, but tilings may be left out if their rows cannot go one after the other so that each piece is put once
+    /// the rows between its rows are gone, and before its own rows go.
+    pub fn ordered_tilings(
+        &mut self,
+        alloc: Global,
+        cells: &Empties,
+        supply: &[u8; 7],
+        most: usize,
+    ) -> Option<TilingList>
+        ensures all { IfSome result (λ list.
+            ListsOrdered (empty_cells cells.now) (supply_in supply.now) list.tilings.items) }
+        ensures only { IfSome result (λ list.
+            ListsOnly (empty_cells cells.now) (supply_in supply.now) list.tilings.items) }
+    {
+        self.list(alloc, cells, supply, most, true)
+    }
+
+    /// All tilings, or those whose rows can go so.
+    fn list(
+        &mut self,
+        alloc: Global,
+        cells: &Empties,
+        supply: &[u8; 7],
+        most: usize,
+        is_ordered: bool,
+    ) -> Option<TilingList>
+        ensures all { IfSome result (λ list.
+            ListsThose is_ordered (empty_cells cells.now) (supply_in supply.now) list.tilings.items) }
+        ensures only { IfSome result (λ list.
+            ListsOnly (empty_cells cells.now) (supply_in supply.now) list.tilings.items) }
+    {
+        self.listing = Listing::new(alloc, most, is_ordered);
         self.search(&Shifted::new(cells), SupplyWord::new(supply));
         if self.listing.is_full {
             return None;
@@ -116,14 +152,15 @@ impl Lister {
             (GoesOn IsAny (supply_of supply) (shifted_cells cells.now)) }
     {
         let counted = cells.counted();
-        let hash = hash_of(&counted, supply);
-        if is_dead(&counted, supply, hash, &self.known) {
+        let order = self.listing.order;
+        let hash = hash_of(&counted, supply) ^ order.mixed();
+        if is_dead(&counted, supply, order, hash, &self.known) {
             return;
         }
         let before = self.listing.tilings.len();
         self.covers(cells, y, supply);
         if self.listing.is_none_since(before) {
-            self.known.put(hash, Dead::new(counted, supply));
+            self.known.put(hash, Dead::new(counted, supply, order));
         }
     }
 
@@ -298,8 +335,14 @@ impl Lister {
             return;
         }
         let taken = cover.cells.cells().without_cells(&rest.cells());
+        let order = self.listing.order;
+        let Some(after) = order.with_piece(&taken) else {
+            return;
+        };
+        self.listing.order = after;
         self.listing.path.push(piece, taken);
         self.search(rest, cover.supply);
         self.listing.path.pop();
+        self.listing.order = order;
     }
 }

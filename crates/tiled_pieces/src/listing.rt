@@ -1,12 +1,15 @@
 // Tilings that a walk has found so far.
 use crate::listed::ListedTiling;
 use crate::path::Path;
+use crate::row_order::RowOrder;
 use std::alloc::Global;
 
 /// The tilings that a walk has found so far, and the pieces that it has laid.
 #[derive(Drop)]
 pub(crate) struct Listing {
     pub(crate) path: Path,
+    /// Which rows have to go before which.
+    pub(crate) order: RowOrder,
     pub(crate) tilings: Vec<ListedTiling>,
     /// How many tilings there may be.
     pub(crate) most: usize,
@@ -19,13 +22,16 @@ impl Listing {
     ghost use Rattle.tiled_pieces.specs.TilingLists.{LaidPiece};
     ghost use Rattle.tiled_pieces.specs.Listings.{Adds, path_of};
 
-    /// No tiling yet.
-    pub(crate) fn new(alloc: Global, most: usize) -> Listing
+    /// No tiling yet. If it is ordered, pieces have to keep to an order of rows.
+    pub(crate) fn new(alloc: Global, most: usize, is_ordered: bool) -> Listing
         ensures path { path_of result.path ≡ [] }
         ensures none { result.tilings.items ≡ [] }
+        ensures kept { result.order.is_kept ≡ is_ordered }
+        ensures free { result.order.before ≡ 0 }
     {
         Listing {
             path: Path::new(),
+            order: RowOrder::new(is_ordered),
             tilings: Vec::new(alloc),
             most,
             is_full: false,

@@ -1,25 +1,29 @@
 -- Each way on, and what it adds.
-use Rattle.std.proofs.Common.{[], ◌∷◌, refl, ap₂, subst, ◌∙◌, arith, rules}
+use Rattle.std.proofs.Common.{[], ◌∷◌, refl, sym, ap₂, subst, ◌∙◌, arith, rules}
 use Rattle.lane_board.specs.Field.{Field, difference}
 use Rattle.empty_cells.specs.Empties.{empty_cells}
 use Rattle.empty_cells.specs.ShiftedCells.{shifted_cells}
 use Rattle.empty_cells.specs.Stacks.{CanFill}
 use Rattle.empty_cells.specs.SupplyWords.{supply_of}
+use Rattle.tiled_pieces.specs.RowBits.{Fills}
+use Rattle.tiled_pieces.proofs.MovedOrders.{fills_counted, fills_there}
 use Rattle.empty_cells.proofs.CallerLemmas.{fewer, shifted_small}
-use Rattle.tiled_pieces.specs.Listings.{GoesOn, GoesOnWith, HasFirst, IsAny}
-use Rattle.tiled_pieces.proofs.AddsLemmas.{adds_as, adds_full, adds_none, rows-all, rows-next, rows-none, rows-start}
-use Rattle.tiled_pieces.proofs.StepLemmas.{four_of, goes_fills, leaves_adds, none_added, nothing_more, one_of, path_goes, seven_add, takes_adds, two_of}
+use Rattle.tiled_pieces.specs.Listings.{GoesOn, GoesOnWith, HasFirst, IsAny, path_of}
+use Rattle.tiled_pieces.proofs.AddsLemmas.{adds_as, adds_full, adds_none, adds_none_here, rows-all, rows-next, rows-none, rows-start}
+use Rattle.tiled_pieces.proofs.StepLemmas.{fills_from, four_of, goes_fills, leaves_adds, leaves_none, none_added, nothing_more, one_of, path_goes, seven_add, takes_adds, two_of}
 use Rattle.tiled_pieces.proofs.lister.Lister.+walk.Goals as goal
 
 pub asks-returns-then-is_dead : goal.asks-returns-then-is_dead
-asks-returns-then-is_dead t c = let supply = supply_of c.args.supply in let E = shifted_cells c.args.cells.now in
-    adds_none c.args.self.now.listing (GoesOn HasFirst supply E) (GoesOn IsAny supply E) (λ path found goes.
-    c.is_dead.ensures c.if-is_dead.true ((c.counted-counted.ensures supply).1 (goes_fills supply E path found (shifted_small c.args.cells.now) goes)))
+asks-returns-then-is_dead t c = let supply = supply_of c.args.supply in let E = shifted_cells c.args.cells.now in let before = c.args.self.now.listing in
+    adds_none_here before (GoesOn HasFirst supply E) (GoesOn IsAny supply E) (λ found from goes. c.is_dead.ensures c.if-is_dead.true
+    (subst (Fills before.order supply) (sym c.counted-counted.ensures) (fills_counted c.args.cells.now before.order supply
+    (fills_from before.order supply E (path_of before.path) found (shifted_small c.args.cells.now) from goes))))
 
 pub asks-new-requires : goal.asks-new-requires
-asks-new-requires t c = λ filling. none_added (supply_of c.args.supply) (shifted_cells c.args.cells.now) c.args.self.now.listing c.covers.new.self.listing (shifted_small c.args.cells.now)
+asks-new-requires t c = λ filling. let supply = supply_of c.args.supply in let before = c.args.self.now.listing in
+    none_added supply (shifted_cells c.args.cells.now) before c.covers.new.self.listing (shifted_small c.args.cells.now)
     c.covers.ensures (omega (arith, c.len-before.ensures, c.is_none_since.ensures.same c.if-is_none_since.true)) (c.is_none_since.ensures.room c.if-is_none_since.true)
-    ((c.counted-counted.ensures (supply_of c.args.supply)).0 filling)
+    (fills_there c.args.cells.now before.order supply (subst (Fills before.order supply) c.counted-counted.ensures filling))
 
 pub covers-returns : goal.covers-returns
 covers-returns t c = search (rules, seven_add, shifted_small)
@@ -57,11 +61,16 @@ forms-returns-in-S t c = search (rules, two_of, shifted_small)
 pub leaves-returns-then-is_full : goal.leaves-returns-then-is_full
 leaves-returns-then-is_full t c = search (rules, adds_full)
 
+pub leaves-returns-in_default : goal.leaves-returns-in_default
+leaves-returns-in_default t c = let cover = c.args.cover.now in
+    leaves_none (supply_of cover.supply) (shifted_cells cover.cells) (shifted_cells c.args.rest.now) c.args.piece c.args.self.now.listing (empty_cells c.without_cells-taken.result)
+    (c.without_cells-taken.ensures ∙ ap₂ difference c.cells.ensures c.cells-2.ensures) c.in_default.ensures
+
 pub leaves-returns : goal.leaves-returns
 leaves-returns t c = let cover = c.args.cover.now in let before = c.args.self.now.listing in
     leaves_adds (supply_of cover.supply) (shifted_cells cover.cells) (shifted_cells c.args.rest.now) c.args.piece before
-    (record { path = c.push.new.self; tilings = before.tilings; most = before.most; is_full = before.is_full }) c.search.new.self.listing _ (empty_cells c.without_cells-taken.result)
-    (c.without_cells-taken.ensures ∙ ap₂ difference c.cells.ensures c.cells-2.ensures) c.push.ensures refl refl c.search.ensures c.pop.ensures refl refl
+    (record { path = c.push.new.self; order = c.in-Some.after; tilings = before.tilings; most = before.most; is_full = before.is_full }) c.search.new.self.listing _ (empty_cells c.without_cells-taken.result)
+    (c.without_cells-taken.ensures ∙ ap₂ difference c.cells.ensures c.cells-2.ensures) c.push.ensures refl refl c.in-Some.ensures c.search.ensures c.pop.ensures refl refl refl
 
 pub search-returns-then-self : goal.search-returns-then-self
 search-returns-then-self t c = search (rules, adds_full)

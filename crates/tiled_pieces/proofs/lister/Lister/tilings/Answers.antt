@@ -1,18 +1,12 @@
--- What the walk has added to an empty list is handed out.
+-- The list has all tilings.
 use Rattle.prune.specs.Tiling.{supply_in}
 use Rattle.empty_cells.specs.Empties.{empty_cells}
 use Rattle.empty_cells.proofs.CallerLemmas.{cells_small}
-use Rattle.tiled_pieces.proofs.ListedAll.{listed}
+use Rattle.tiled_pieces.proofs.ListedAll.{if_all, if_exact}
 use Rattle.tiled_pieces.proofs.lister.Lister.tilings.Goals as goal
 
 pub returns-clause-all : goal.returns-clause-all
-returns-clause-all c = (listed (supply_in c.args.supply.now) (empty_cells c.args.cells.now) c.new.result c.search.new.self.listing c.new-3.result _ c.replace-tilings.result (cells_small c.args.cells.now)
-    c.new.ensures.path c.new.ensures.none c.new-3.ensures c.new-2.ensures c.search.ensures c.if-self.false c.replace-tilings.ensures.value).all
-
-pub returns-clause-only : goal.returns-clause-only
-returns-clause-only c = (listed (supply_in c.args.supply.now) (empty_cells c.args.cells.now) c.new.result c.search.new.self.listing c.new-3.result _ c.replace-tilings.result (cells_small c.args.cells.now)
-    c.new.ensures.path c.new.ensures.none c.new-3.ensures c.new-2.ensures c.search.ensures c.if-self.false c.replace-tilings.ensures.value).only
+returns-clause-all c = if_all (empty_cells c.args.cells.now) (supply_in c.args.supply.now) c.list.result c.list.ensures.all
 
 pub returns-clause-exact : goal.returns-clause-exact
-returns-clause-exact c = (listed (supply_in c.args.supply.now) (empty_cells c.args.cells.now) c.new.result c.search.new.self.listing c.new-3.result _ c.replace-tilings.result (cells_small c.args.cells.now)
-    c.new.ensures.path c.new.ensures.none c.new-3.ensures c.new-2.ensures c.search.ensures c.if-self.false c.replace-tilings.ensures.value).exact
+returns-clause-exact c = if_exact (empty_cells c.args.cells.now) (supply_in c.args.supply.now) c.list.result (cells_small c.args.cells.now) c.list.ensures.all c.list.ensures.only

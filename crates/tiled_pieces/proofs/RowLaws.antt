@@ -1,0 +1,137 @@
+-- The rows of pieces that are put into a set one after the other can go one before the other.
+use Rattle.std.proofs.Common.{◌≡◌, ℕ, suc, ◌<◌, ◌≤◌, Bool, true, false, if◌then◌else◌, List, [], ◌∷◌, ap, inl, inr, arith}
+use Rattle.std.specs.Prelude.{All}
+use Rattle.std.specs.List.{Contains}
+use Rattle.std.proofs.lemmas.Bool.{and_parts, both_ways, cases_Bool, false_from_ne_true}
+use Rattle.std.proofs.lemmas.List.Elements.{All-cons, All-contains, All-contains_itself, All-nil, All-weaker}
+use Rattle.lane_board.specs.Field.{Field, difference}
+use Rattle.empty_cells.proofs.CallerLemmas.{IsSmall}
+use Rattle.tiled_pieces.specs.TilingLists.{LaidPiece}
+use Rattle.tiled_pieces.specs.Built.{AreBuilt, IsGone}
+use Rattle.tiled_pieces.specs.RowOrders.{CanGo, HasTurns, IsGap}
+use Rattle.tiled_pieces.specs.Words.{has_row}
+use Rattle.tiled_pieces.proofs.LaidLemmas.{left_small}
+use Rattle.tiled_pieces.proofs.RowTests.{any_column, gone_row}
+
+-- how many of the pieces are put before a row has no cell left
+gone_after : Field → List LaidPiece → ℕ → ℕ
+gone_after E [] row = 0
+gone_after E (laid ∷ more) row = if has_row E row then suc (gone_after (difference E laid.cells) more row) else 0
+
+row_there : (E : Field) (row x : ℕ) → IsSmall 8 E → E x row ≡ true → has_row E row ≡ true
+unfolding has_row
+row_there E row x small here = any_column (λ x. E x row) x (small.column x row here) here
+
+-- a row that is gone has no cell later
+still_gone : (E cells : Field) (row : ℕ) → IsSmall 8 E → has_row E row ≡ false → has_row (difference E cells) row ≡ false
+unfolding difference
+still_gone E cells row small none = gone_row (difference E cells) row (λ x. false_from_ne_true _ (λ here. both_ways _ none (row_there E row x small (and_parts (E x row) _ here).0)))
+
+module _ (E : Field) (laid : LaidPiece) (more : List LaidPiece) (row : ℕ) where
+  now_gone : has_row E row ≡ false → gone_after E (laid ∷ more) row ≡ 0
+  unfolding gone_after
+  now_gone none = ap (λ b. if b then suc (gone_after (difference E laid.cells) more row) else 0) none
+
+  not_gone : has_row E row ≡ true → gone_after E (laid ∷ more) row ≡ suc (gone_after (difference E laid.cells) more row)
+  unfolding gone_after
+  not_gone has = ap (λ b. if b then suc (gone_after (difference E laid.cells) more row) else 0) has
+
+  one_more : gone_after E (laid ∷ more) row ≤ suc (gone_after (difference E laid.cells) more row)
+  one_more = elim (cases_Bool (has_row E row)) [
+    | inl has ↦ omega (arith, not_gone has)
+    | inr none ↦ omega (arith, now_gone none)
+  ]
+
+-- a row that goes after some pieces has a cell
+has_later : (E : Field) (pieces : List LaidPiece) (row : ℕ) → 0 < gone_after E pieces row → has_row E row ≡ true
+unfolding gone_after
+has_later E [] row some = absurd (omega (arith, some))
+has_later E (laid ∷ more) row some = elim (cases_Bool (has_row E row)) [
+  | inl has ↦ has
+  | inr none ↦ absurd (omega (arith, some, now_gone E laid more row none))
+]
+
+-- the piece that is put now
+turns_now : (E : Field) (laid : LaidPiece) (more : List LaidPiece) → IsSmall 8 E → ((x y u v z : ℕ) → laid.cells x y ≡ true → laid.cells u v ≡ true → y < z → z < v → IsGone laid.cells z → IsGone E z) →
+    ((x y : ℕ) → laid.cells x y ≡ true → E x y ≡ true) → HasTurns (gone_after E (laid ∷ more)) laid
+turns_now E laid more small unbroken inside = record {
+  before = λ gap row is has. omega (
+    arith,
+    now_gone E laid more gap (gone_row E gap (unbroken is.lower.x is.below is.upper.x is.above gap is.lower.there is.upper.there is.over is.under (λ x. false_from_ne_true _ (λ here. is.none (record { x = x; there = here }))))),
+    not_gone E laid more row (row_there E row has.x small (inside has.x row has.there)),
+  );
+}
+
+-- a piece that is put later
+turns_later : (E : Field) (laid : LaidPiece) (more : List LaidPiece) → IsSmall 8 E → (other : LaidPiece) → HasTurns (gone_after (difference E laid.cells) more) other → HasTurns (gone_after E (laid ∷ more)) other
+turns_later E laid more small other turns = record {
+  before = λ gap row is has.
+      let later = turns.before gap row is has in
+      omega (arith, later, one_more E laid more gap, not_gone E laid more row (was_there row (has_later (difference E laid.cells) more row (omega (arith, later)))));
+}
+  where
+    was_there : (row : ℕ) → has_row (difference E laid.cells) row ≡ true → has_row E row ≡ true
+    was_there row has = elim (cases_Bool (has_row E row)) [
+      | inl there ↦ there
+      | inr none ↦ absurd (both_ways _ (still_gone E laid.cells row small none) has)
+    ]
+
+all_turns : (E : Field) (drops : Bool) (order : List LaidPiece) → IsSmall 8 E → AreBuilt E drops order → All (HasTurns (gone_after E order)) order
+unfolding AreBuilt
+all_turns E drops [] small built = All-nil (HasTurns (gone_after E []))
+all_turns E drops (laid ∷ more) small (fits, built) = All-cons (HasTurns (gone_after E (laid ∷ more))) laid more
+    (turns_now E laid more small fits.unbroken fits.inside)
+    (All-weaker (HasTurns (gone_after (difference E laid.cells) more)) (HasTurns (gone_after E (laid ∷ more))) (turns_later E laid more small) more
+    (all_turns (difference E laid.cells) drops more (left_small E laid.cells small) built))
+
+-- pieces that can be put into a small set one after the other
+pub built-can-go : (E : Field) (drops : Bool) (order : List LaidPiece) → IsSmall 8 E → AreBuilt E drops order → CanGo order
+built-can-go E drops order small built = record { turn = gone_after E order; each = all_turns E drops order small built }
+
+-- whether rows can go does not depend on the order of the pieces, nor on further ones
+pub fewer-can-go : (pieces others : List LaidPiece) → All (Contains pieces) others → CanGo pieces → CanGo others
+fewer-can-go pieces others among can = record {
+  turn = can.turn;
+  each = All-weaker (Contains pieces) (HasTurns can.turn) (λ laid there. All-contains (HasTurns can.turn) pieces laid can.each there) others among;
+}
+
+-- ---- a piece before others
+
+-- rows that have no cell go first
+first_turn : Field → (ℕ → ℕ) → ℕ → ℕ
+first_turn E turn row = if has_row E row then suc (turn row) else 0
+
+module _ (E : Field) (turn : ℕ → ℕ) (row : ℕ) where
+  turn_there : has_row E row ≡ true → first_turn E turn row ≡ suc (turn row)
+  unfolding first_turn
+  turn_there has = ap (λ b. if b then suc (turn row) else 0) has
+
+  turn_gone : has_row E row ≡ false → first_turn E turn row ≡ 0
+  unfolding first_turn
+  turn_gone none = ap (λ b. if b then suc (turn row) else 0) none
+
+  turn_most : first_turn E turn row ≤ suc (turn row)
+  turn_most = elim (cases_Bool (has_row E row)) [
+    | inl has ↦ omega (arith, turn_there has)
+    | inr none ↦ omega (arith, turn_gone none)
+  ]
+
+-- a piece whose cells are in a set
+abbrev pub IsWithin : Field → LaidPiece → Type 0
+IsWithin E laid = (x y : ℕ) → laid.cells x y ≡ true → E x y ≡ true
+
+-- where the gaps of a piece are gone, it can be put before others
+pub put-first : (E : Field) (laid : LaidPiece) (more : List LaidPiece) → IsSmall 8 E → ((row : ℕ) → IsGap laid row → IsGone E row) → IsWithin E laid → All (IsWithin E) more → CanGo more → CanGo (laid ∷ more)
+put-first E laid more small gone inside others can = record {
+  turn = first_turn E can.turn;
+  each = All-cons (HasTurns (first_turn E can.turn)) laid more
+      (record { before = λ gap row is has. omega (arith, turn_gone E can.turn gap (gone_row E gap (gone gap is)), turn_there E can.turn row (row_there E row has.x small (inside has.x row has.there))) })
+      (All-weaker (Contains more) (HasTurns (first_turn E can.turn))
+      (λ other there. later other (All-contains (HasTurns can.turn) more other can.each there) (All-contains (IsWithin E) more other others there)) more (All-contains_itself more));
+}
+  where
+    later : (other : LaidPiece) → HasTurns can.turn other → IsWithin E other → HasTurns (first_turn E can.turn) other
+    later other turns within = record {
+      before = λ gap row is has.
+          omega (arith, turns.before gap row is has, turn_most E can.turn gap, turn_there E can.turn row (row_there E row has.x small (within has.x row has.there)));
+    }
