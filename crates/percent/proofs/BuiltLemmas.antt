@@ -45,7 +45,7 @@ use Rattle.percent.specs.GoodHands.{is_good, reached_places}
 use Rattle.hands.specs.Hands.{takes}
 use Rattle.percent.specs.OpenRows.{HasOpenRows}
 use Rattle.percent.specs.Spread.{IsSpread, is_row_of}
-use Rattle.percent.proofs.MarkLemmas.{laid, laid-sent, left-sent, lies, sent_part}
+use Rattle.percent.proofs.SentLemmas.{laid, laid-sent, left-sent, lies, sent_part}
 use Rattle.percent.proofs.RestingLemmas.{InRow, StandsOn, place-stands, row_between, sky-clear}
 use Rattle.percent.proofs.SpreadLemmas.{IsRowOf, Keeping, NearCell, keeping-ends, keeping-more, keeping-pass, keeping-starts, near, opens-after, row_of, sent_here, small_set, spread-after, spread-own, zero_at}
 use Rattle.percent.proofs.TiledLemmas.{IsRest, rest-supplied, taken-rest}
@@ -104,7 +104,7 @@ module _ (F : Field) (height : ℕ) (rows : List ℕ) (E : Field) (spread : IsSp
       let column = at.column in
       ap (E x) (sym at.sent) ∙ spread.same x at.row (omega arith) at.low ∙ ap not at.empty
 
-  unbroken : (x y u v z : ℕ) → sent_cells rows q x y ≡ true → sent_cells rows q u v ≡ true → y < z → z < v → IsGone (sent_cells rows q) z → IsGone E z
+  pub unbroken : (x y u v z : ℕ) → sent_cells rows q x y ≡ true → sent_cells rows q u v ≡ true → y < z → z < v → IsGone (sent_cells rows q) z → IsGone E z
   unbroken x y u v z has_low has_high above under none t = false_from_ne_true (E t z) (λ here.
       let low = laid_at x y has_low in
       let high = laid_at u v has_high in
@@ -200,12 +200,12 @@ kept_below G rows small (suc y) few =
     ]
 
 -- a position after a placement, in the rows of the earlier field
-record After (F : Field) (height : ℕ) (E : Field) (rows : List ℕ) (q : Placement) : Type 0 where
+pub record After (F : Field) (height : ℕ) (E : Field) (rows : List ℕ) (q : Placement) : Type 0 where
   pub kept : List ℕ
   pub spread : IsSpread (locked F q) (height - rows_removed F q) kept (difference E (sent_cells rows q))
   pub opens : HasOpenRows (locked F q) (height - rows_removed F q)
 
-after : (F : Field) (height : ℕ) (E : Field) (rows : List ℕ) (q : Placement) → height ≤ 8 → IsLow F height → IsSmall 8 E → IsSpread F height rows E → is_free F q ≡ true → is_below height q ≡ true → After F height E rows q
+pub after : (F : Field) (height : ℕ) (E : Field) (rows : List ℕ) (q : Placement) → height ≤ 8 → IsLow F height → IsSmall 8 E → IsSpread F height rows E → is_free F q ≡ true → is_below height q ≡ true → After F height E rows q
 unfolding locked rows_removed
 after F height E rows q few low small spread free below =
     let old = kept_below (together F q) rows spread.within height few in
@@ -247,7 +247,7 @@ none-full F height few none = record { each = λ y low. unfull F rows none y (Co
 
 -- ---- the law
 
-less-small : (E cells : Field) → IsSmall 8 E → IsSmall 8 (difference E cells)
+pub less-small : (E cells : Field) → IsSmall 8 E → IsSmall 8 (difference E cells)
 unfolding difference
 less-small E cells small = record {
   column = λ a b here. small.column a b (and_parts (E a b) (not (cells a b)) here).0;

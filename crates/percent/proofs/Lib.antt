@@ -3,6 +3,7 @@ mod TestLemmas
 pub mod CallerLemmas
 mod GoodLemmas
 mod KeptLemmas
+mod SentLemmas
 mod MarkLemmas
 mod PlaceLemmas
 mod GoodSteps

@@ -1,5 +1,5 @@
 -- A placement after which a rest is good stands in a listed tiling by the pieces of the rest and its own.
-use Rattle.std.proofs.Common.{ℕ, ◌≡◌, ◌↔◌, ◌∙◌, ◌+◌, ◌-◌, ◌*◌, ◌^◌, ◌%◌, ◌<◌, ◌≤◌, ◌⊎◌, true, false, not, ◌&&◌, ◌||◌, bit_and, bit_or, List, [], ◌∷◌, ◌++◌, length, get_or, map, ap, pos, refl, sym, subst, inl, inr, arith, rules}
+use Rattle.std.proofs.Common.{ℕ, suc, cond, ◌≡◌, ◌↔◌, ◌∙◌, ◌+◌, ◌-◌, ◌*◌, ◌^◌, ◌%◌, ◌<◌, ◌≤◌, ◌⊎◌, true, false, not, ◌&&◌, ◌||◌, bit_and, bit_or, List, [], ◌∷◌, ◌++◌, length, get_or, map, ap, pos, refl, sym, subst, inl, inr, arith, rules}
 use Rattle.std.proofs.lemmas.List.Folds.{list_all-map}
 use Rattle.std.proofs.Math.Bool.{and-true, or-true, true-or}
 use Rattle.std.proofs.lemmas.Bool.{cases_Bool, cases_lt, cond-true, cond-false, both_ways, eq-eqb, false_from_ne_true, not-true, not_from_false, or_parts}
@@ -22,7 +22,7 @@ use Rattle.well.specs.Free.{is_free}
 use Rattle.well.specs.Lock.{locked, rows_removed, together}
 use Rattle.well.specs.LockLaws.{is_below}
 use Rattle.well.proofs.CallerLemmas.{free_inside}
-use Rattle.prune.specs.Tiling.{Part, Supply, Tiling}
+use Rattle.prune.specs.Tiling.{Part, Supply, Tiling, covers, is_empty_below}
 use Rattle.prune.specs.OnePart.{less_one}
 use Rattle.prune.proofs.CallerLemmas.{SendsRows, cell_to, full_rows_may_stand, generalized_to, more_pieces, part_to, placed, placed_empty, placed_generalized, row_to, tiling_to}
 use Rattle.empty_cells.specs.declared.empties.Empties.{Empties}
@@ -30,8 +30,10 @@ use Rattle.empty_cells.specs.Empties.{all_but, empty_cells, has_cell}
 use Rattle.empty_cells.specs.SentCells.{sent_cells, sent_up}
 use Rattle.empty_cells.proofs.CallerLemmas.{IsSmall, cells_small}
 use Rattle.tiled_pieces.specs.declared.listed.ListedTiling.{ListedTiling}
-use Rattle.tiled_pieces.specs.TilingLists.{HasPiece, LaidPiece, ListsAll, SomeHas, laid_part}
-use Rattle.tiled_pieces.proofs.CallerLemmas.{LiesIn, left_by_part, part_listed, rest_listed}
+use Rattle.tiled_pieces.specs.TilingLists.{HasPiece, LaidPiece, SomeHas, laid_part}
+use Rattle.tiled_pieces.specs.Built.{IsGone}
+use Rattle.tiled_pieces.specs.RowOrders.{IsGap, ListsOrdered}
+use Rattle.tiled_pieces.proofs.CallerLemmas.{LiesIn, built-can-go, left_by_part, ordered_part_listed, ordered_rest_listed}
 use Rattle.percent.specs.declared.game.Game.{Game}
 use Rattle.percent.specs.declared.marks.Mark.{Mark}
 use Rattle.percent.specs.declared.position.Child.{Child}
@@ -39,6 +41,9 @@ use Rattle.percent.specs.declared.position.Position.{Position}
 use Rattle.percent.specs.Children.{IsChild}
 use Rattle.percent.specs.Fitting.{codes_in, codes_with, supply_at, supply_by}
 use Rattle.percent.specs.GoodHands.{is_good}
+use Rattle.percent.specs.BuiltHands.{IsBuiltBy}
+use Rattle.percent.proofs.BuiltLemmas.{after, good-built, less-small, unbroken}
+use Rattle.percent.proofs.SentLemmas.{laid, laid-sent, left-sent, lies, sent_part, sends, tiled-left}
 use Rattle.percent.specs.Marks.{AreIndexes, HasMarkAt, IsMarkOf, IsStanding, IsTrueMark}
 use Rattle.percent.specs.declared.children.Standing.{Standing}
 use Rattle.percent.specs.Standing.{AreStandingBefore}
@@ -63,61 +68,6 @@ one_there : (piece : Piece) (count rest : ℕ) (counts : List ℕ) → ((code : 
 unfolding supply_by codes_with
 one_there piece count rest counts most = search (rules, piece_code-small, cond-true, eq-eqb)
 
--- ---- rows that are sent to where they stand
-
--- the rows of a position are sent to those of a set
-sends : (F : Field) (height : ℕ) (rows : List ℕ) (E : Field) → height ≤ 8 → IsSpread F height rows E → SendsRows F height (all_but E) 8 (λ y. get_or rows y 0)
-unfolding all_but
-sends F height rows E few spread = record {
-  rises = λ x v y z _ _ _ below_z _ _ lower. spread.rises y z lower below_z;
-  below = λ x y _ below _. spread.within y (omega arith);
-  empty = λ x y column below empty. ap not (spread.same x y (omega arith) below ∙ ap not empty);
-  before = λ x z column below empty.
-      let here : E x z ≡ true = not_false (E x z) empty in
-      let at = row_of height rows z (spread.only x z here) in
-      record { y = at.row; below = at.below; empty = not-true (F x at.row) (sym (spread.same x at.row (omega arith) at.below) ∙ ap (E x) at.sent ∙ here); sent = at.sent };
-}
-
--- what is left is tiled there
-tiled-left : (F : Field) (q : Placement) (height : ℕ) (rows : List ℕ) (E : Field) (supply : Supply) → height ≤ 8 → IsSpread F height rows E → is_free F q ≡ true → is_below height q ≡ true
-    → Tiling (together F q) height supply → Tiling (all_but (difference E (sent_cells rows q))) 8 supply
-tiled-left F q height rows E supply few spread free below t =
-    tiling_to (together F q) height (all_but (difference E (sent_cells rows q))) 8 (λ y. get_or rows y 0)
-    (sends (together F q) height rows (difference E (sent_cells rows q)) few (spread-placed F height rows E spread q free below)) supply t
-
--- a placement, with its rows sent
-abbrev pub sent_part : List ℕ → Placement → Part
-sent_part rows q = part_to (λ y. get_or rows y 0) (placed q)
-
-abbrev pub laid : List ℕ → Placement → LaidPiece
-laid rows q = record { piece = q.piece; cells = sent_cells rows q }
-
-cells-same : (rows : List ℕ) (cells : List Cell) → map (cell_to (λ y. get_or rows y 0)) cells ≡ map (sent_up rows) cells
-unfolding cell_to row_to sent_up
-cells-same rows cells = search rules
-
-pub laid-sent : (rows : List ℕ) (q : Placement) → laid_part (sent_part rows q) ≡ laid rows q
-unfolding sent_cells
-laid-sent rows q = λ i. record { piece = q.piece; cells = λ x y. is_among (cells-same rows (cells_of q) i) (pos x, pos y) }
-
-pub left-sent : (rows : List ℕ) (E : Field) (q : Placement) → left_by_part E (sent_part rows q) ≡ difference E (sent_cells rows q)
-left-sent rows E q = ap (λ (piece : LaidPiece). difference E piece.cells) (laid-sent rows q)
-
-pub lies : (F : Field) (q : Placement) (height : ℕ) (rows : List ℕ) (E : Field) (supply : Supply) → height ≤ 8 → IsSmall 8 E → IsSpread F height rows E → is_free F q ≡ true → is_below height q ≡ true
-    → 0 < supply q.piece → LiesIn E supply (sent_part rows q)
-unfolding cell_to row_to
-lies F q height rows E supply few small spread free below some = record {
-  small = small;
-  generalized = generalized_to F height (all_but E) 8 (λ y. get_or rows y 0) (sends F height rows E few spread) (placed q) (placed_empty F height q free below) (placed_generalized q (free_inside F q free));
-  some = some;
-  inside = list_all-map (has_cell E) (cell_to (λ y. get_or rows y 0)) (cells_of q) ∙ list_all-from_is_among (λ c. has_cell E (cell_to (λ y. get_or rows y 0) c)) (cells_of q) (λ c has. here c (near F height rows E spread q free below c has));
-}
-  where
-    here : (c : Cell) → NearCell F height rows E spread q free below c → has_cell E (cell_to (λ y. get_or rows y 0) c) ≡ true
-    here c at =
-        let column = at.column in
-        subst (λ c. has_cell E (cell_to (λ y. get_or rows y 0) c) ≡ true) (sym at.is) (spread.same at.x at.y (omega arith) at.row ∙ not_from_false (F at.x at.y) at.empty)
-
 -- ---- good rests
 
 -- where a rest is good after a placement, what it leaves is tiled by the pieces of the rest
@@ -134,41 +84,68 @@ pub walled-bad : (game : Game) (p : Position) (q : Placement) (left rest : ℕ) 
 walled-bad game p q left rest rows E spread free below none =
     false_from_ne_true _ (λ good. none (supply_at (left + 1) rest) (good-left game p q left rest rows E spread free below good))
 
+-- rows between those of a placement are gone
+gaps-gone : (F : Field) (height : ℕ) (rows : List ℕ) (E : Field) → IsSpread F height rows E → (q : Placement) → is_free F q ≡ true → is_below height q ≡ true → (row : ℕ) → IsGap (laid_part (sent_part rows q)) row → IsGone E row
+gaps-gone F height rows E spread q free below row gap = at (subst (λ piece. IsGap piece row) (laid-sent rows q) gap)
+  where
+    at : IsGap (laid rows q) row → IsGone E row
+    at is = unbroken F height rows E spread q free below is.lower.x is.below is.upper.x is.above row is.lower.there is.upper.there is.over is.under
+        (λ x. false_from_ne_true (sent_cells rows q x row) (λ here. is.none (record { x = x; there = here })))
+
+-- a rest that is good after a placement builds what it leaves
+good-after-built : (game : Game) (p : Position) (q : Placement) (left rest : ℕ) (rows : List ℕ) (E : Field) → IsSmall 8 E → IsSpread (filled p.well) p.rows rows E → is_free (filled p.well) q ≡ true → is_below p.rows q ≡ true
+    → is_good game (locked (filled p.well) q) (p.rows - rows_removed (filled p.well) q) left rest ≡ true
+    → IsBuiltBy (difference E (sent_cells rows q)) false game.hold left rest
+good-after-built game p q left rest rows E small spread free below good =
+    let next = after (filled p.well) p.rows E rows q p.few (low-position p) small spread free below in
+    good-built game false (locked (filled p.well) q) (p.rows - rows_removed (filled p.well) q) left rest next.kept (difference E (sent_cells rows q)) (λ must. absurd (both_ways _ refl must))
+    (omega (arith, p.few)) (locked-low (filled p.well) p.rows q (low-position p) below free) next.opens (less-small E (sent_cells rows q) small) next.spread good
+
 -- and it stands in a listed tiling
 pub good-listed : (game : Game) (p : Position) (q : Placement) (left rest : ℕ) (rows counts : List ℕ) (E : Field) (list : List ListedTiling) → IsSmall 8 E → IsSpread (filled p.well) p.rows rows E
     → is_free (filled p.well) q ≡ true → is_below p.rows q ≡ true
-    → ((code : ℕ) → code < 8 → codes_with q.piece (left + 1) rest code ≤ get_or counts code 0) → ListsAll E (supply_by counts) list
+    → ((code : ℕ) → code < 8 → codes_with q.piece (left + 1) rest code ≤ get_or counts code 0) → ListsOrdered E (supply_by counts) list
     → is_good game (locked (filled p.well) q) (p.rows - rows_removed (filled p.well) q) left rest ≡ true
     → SomeHas list (laid rows q)
 good-listed game p q left rest rows counts E list small spread free below most all good =
     subst (SomeHas list) (laid-sent rows q)
-    (part_listed E (supply_by counts) list (sent_part rows q)
-    (lies (filled p.well) q p.rows rows E (supply_by counts) p.few small spread free below (one_there q.piece (left + 1) rest counts most)) all
-    (subst (λ (D : Field). Tiling (all_but D) 8 (less_one (supply_by counts) q.piece)) (sym (left-sent rows E q))
-    (more_pieces (all_but (difference E (sent_cells rows q))) 8 (supply_at (left + 1) rest) (less_one (supply_by counts) q.piece)
-    (λ other. enough q.piece other (left + 1) rest counts most) (good-left game p q left rest rows E spread free below good))))
+    (ordered_part_listed E (supply_by counts) list (sent_part rows q)
+    (lies (filled p.well) q p.rows rows E (supply_by counts) p.few small spread free below (one_there q.piece (left + 1) rest counts most))
+    (gaps-gone (filled p.well) p.rows rows E spread q free below) all tiling
+    (built-can-go (difference E (sent_cells rows q)) false (map laid_part built.tiling.parts) (less-small E (sent_cells rows q) small) built.built))
+  where
+    built : IsBuiltBy (difference E (sent_cells rows q)) false game.hold left rest
+    built = good-after-built game p q left rest rows E small spread free below good
+
+    tiling : Tiling (all_but (left_by_part E (sent_part rows q))) 8 (less_one (supply_by counts) q.piece)
+    tiling = record {
+      parts = built.tiling.parts;
+      generalized = built.tiling.generalized;
+      covered = subst (λ (D : Field). (cell : Cell) → covers built.tiling.parts cell ≡ cond (is_empty_below (all_but D) 8 cell) 1 0) (sym (left-sent rows E q)) built.tiling.covered;
+      supplied = λ other. omega (arith, built.tiling.supplied other, ap (λ n. supply_at n rest other) {x = suc left} {y = left + 1} (omega arith), enough q.piece other (left + 1) rest counts most);
+    }
 
 -- the same tilings by fewer pieces
-pub fewer-listed : (E : Field) (supply more : Supply) (list : List ListedTiling) → ((piece : Piece) → supply piece ≤ more piece) → ListsAll E more list → ListsAll E supply list
+pub fewer-listed : (E : Field) (supply more : Supply) (list : List ListedTiling) → ((piece : Piece) → supply piece ≤ more piece) → ListsOrdered E more list → ListsOrdered E supply list
 fewer-listed E supply more list enough all = record {
-  all = λ t. all.all (record { parts = t.parts; generalized = t.generalized; covered = t.covered; supplied = λ piece. omega (arith, t.supplied piece, enough piece) });
+  all = λ t can. all.all (record { parts = t.parts; generalized = t.generalized; covered = t.covered; supplied = λ piece. omega (arith, t.supplied piece, enough piece) }) can;
 }
 
--- the tilings that have the placed piece are all tilings of what it leaves by the pieces of the rest
+-- the tilings that have the placed piece are those of what it leaves by the pieces of the rest
 pub after-listed : (F : Field) (q : Placement) (height left rest : ℕ) (rows counts fewer : List ℕ) (E : Field) (list kept : List ListedTiling) → height ≤ 8 → IsSmall 8 E → IsSpread F height rows E
     → is_free F q ≡ true → is_below height q ≡ true
     → ((code : ℕ) → code < 8 → codes_with q.piece (left + 1) rest code ≤ get_or counts code 0)
     → ((code : ℕ) → code < 8 → get_or fewer code 0 ≡ codes_in (left + 1) rest code)
-    → ListsAll E (supply_by counts) list
+    → ListsOrdered E (supply_by counts) list
     → ((tiling : ListedTiling) → Contains list tiling → HasPiece tiling (laid rows q) → Contains kept tiling)
-    → ListsAll (difference E (sent_cells rows q)) (supply_by fewer) kept
+    → ListsOrdered (difference E (sent_cells rows q)) (supply_by fewer) kept
 unfolding supply_by supply_at
 after-listed F q height left rest rows counts fewer E list kept few small spread free below most same all keeps =
     fewer-listed (difference E (sent_cells rows q)) (supply_by fewer) (less_one (supply_by counts) q.piece) kept
     (λ other. let equal = same (piece_code other) (let code = piece_code-small other in omega arith) in omega (arith, equal, enough q.piece other (left + 1) rest counts most))
-    (subst (λ (D : Field). ListsAll D (less_one (supply_by counts) q.piece) kept) (left-sent rows E q)
-    (rest_listed E (supply_by counts) list kept (sent_part rows q)
-    (lies F q height rows E (supply_by counts) few small spread free below (one_there q.piece (left + 1) rest counts most)) all
+    (subst (λ (D : Field). ListsOrdered D (less_one (supply_by counts) q.piece) kept) (left-sent rows E q)
+    (ordered_rest_listed E (supply_by counts) list kept (sent_part rows q)
+    (lies F q height rows E (supply_by counts) few small spread free below (one_there q.piece (left + 1) rest counts most)) (gaps-gone F height rows E spread q free below) all
     (λ tiling listed has. keeps tiling listed (subst (HasPiece tiling) (laid-sent rows q) has))))
 
 -- what holds of all marks holds of the one at an index

@@ -12,7 +12,9 @@ use Rattle.hold_queue.specs.declared.hold.Hold.{Hold}
 use Rattle.hold_queue.specs.declared.hold.Hold.TheVariants.{Allowed, Avoided}
 use Rattle.prune.specs.Tiling.{Part, Supply}
 use Rattle.tiled_pieces.specs.declared.listed.ListedTiling.{ListedTiling}
-use Rattle.tiled_pieces.specs.TilingLists.{HasPiece, LaidPiece, ListsAll, laid_part}
+use Rattle.tiled_pieces.specs.TilingLists.{HasPiece, LaidPiece, laid_part}
+use Rattle.tiled_pieces.specs.RowOrders.{ListsOrdered}
+use Rattle.tiled_pieces.proofs.CallerLemmas.{built-can-go}
 use Rattle.tiled_pieces.specs.Served.{AreAllowed, IsServed, with_weight}
 use Rattle.percent.specs.BuiltHands.{AllowsTaken, IsBuiltBy, IsHardSrs, code_at, first_weights, takes_all, weight_of}
 use Rattle.percent.specs.declared.game.Game.{Game}
@@ -27,7 +29,7 @@ use Rattle.percent.proofs.FittingLemmas.{low-position}
 use Rattle.well.specs.Well.{filled}
 use Rattle.empty_cells.specs.declared.empties.Empties.{Empties}
 use Rattle.empty_cells.specs.Empties.{empty_cells}
-use Rattle.empty_cells.proofs.CallerLemmas.{cells_small}
+use Rattle.empty_cells.proofs.CallerLemmas.{IsSmall, cells_small}
 use Rattle.srs.proofs.CallerLemmas.{piece_code-small}
 use Rattle.hands.specs.Hands.{allows_hold, takes, without_first, without_second}
 use Rattle.percent.proofs.MarkLemmas.{fewer-listed}
@@ -92,13 +94,13 @@ pub record SomeServes (list : List ListedTiling) (E : Field) (drops : Bool) (wei
   pub listed : Contains list tiling
   pub served : IsServed tiling E drops weights allowed bit
 
--- where all tilings are listed, one of them serves a hand that builds the cells
+-- where all tilings whose rows can go are listed, one of them serves a hand that builds the cells
 pub built-served : (E : Field) (drops : Bool) (hold : Hold) (left hand : ℕ) (supply : Supply) (list : List ListedTiling) (weights allowed : List ℕ) (bit : ℕ)
-    → ((piece : Piece) → supply_at (suc left) hand piece ≤ supply piece) → ListsAll E supply list → AllowsTaken hold left hand weights allowed bit
+    → IsSmall 8 E → ((piece : Piece) → supply_at (suc left) hand piece ≤ supply piece) → ListsOrdered E supply list → AllowsTaken hold left hand weights allowed bit
     → IsBuiltBy E drops hold left hand → SomeServes list E drops weights allowed bit
 unfolding weight_of
-built-served E drops hold left hand supply list weights allowed bit enough lists allows built =
-    let has = (fewer-listed E (supply_at (suc left) hand) supply list enough lists).all built.tiling in
+built-served E drops hold left hand supply list weights allowed bit small enough lists allows built =
+    let has = (fewer-listed E (supply_at (suc left) hand) supply list enough lists).all built.tiling (built-can-go E drops (map laid_part built.tiling.parts) small built.built) in
     let order = map laid_part built.tiling.parts in
     record {
       tiling = has.tiling;
@@ -202,5 +204,5 @@ unserved-bad game drops p left hand bit rows weights allowed cells mark hard spr
     let one : suc left ≡ left + 1 = omega arith in
     let enough : (piece : Piece) → codes_in (suc left) hand (piece_code piece) ≤ get_or mark.counts (piece_code piece) 0 =
     λ piece. subst (λ n. codes_in n hand (piece_code piece) ≤ get_or mark.counts (piece_code piece) 0) (sym one) (most (piece_code piece) (let code = piece_code-small piece in omega arith)) in
-    let serves = built-served (empty_cells cells) drops game.hold left hand (supply_by mark.counts) mark.tilings.tilings.items weights allowed bit enough lists allows built in
+    let serves = built-served (empty_cells cells) drops game.hold left hand (supply_by mark.counts) mark.tilings.tilings.items weights allowed bit (cells_small cells) enough lists allows built in
     none serves.tiling serves.listed serves.served))

@@ -5,13 +5,15 @@ use Rattle.lane_board.specs.Field.{Field}
 use Rattle.lane_board.specs.Lanes.{has_bit}
 use Rattle.srs.specs.declared.placement.Placement.{Placement}
 use Rattle.empty_cells.specs.SentCells.{sent_cells}
-use Rattle.tiled_pieces.specs.TilingLists.{ListsAll, SomeHas}
+use Rattle.tiled_pieces.specs.RowOrders.{ListsOrdered}
+use Rattle.tiled_pieces.specs.TilingLists.{SomeHas}
 use Rattle.percent.specs.declared.marks.Mark.{Mark}
 use Rattle.percent.specs.Fitting.{codes_with, supply_by}
 
--- Each tiling of the cells by so many pieces is listed. As a fact without a choice of its own: it can't be refuted.
+-- Each tiling of the cells by so many pieces is listed, if its rows can go one before the other. As a fact without a
+-- choice of its own: it can't be refuted.
 pub record IsTrueMark (E : Field) (mark : Mark) : Type 0 where
-  pub each : (ListsAll E (supply_by mark.counts) mark.tilings.tilings.items → ⊥) → ⊥
+  pub each : (ListsOrdered E (supply_by mark.counts) mark.tilings.tilings.items → ⊥) → ⊥
 
 -- the mark at this index is of pieces with these counts
 pub record HasMarkAt (known : List Mark) (index : ℕ) (counts : List ℕ) : Type 0 where

@@ -1,5 +1,5 @@
-// All tilings of a position's empty cells by the available pieces. A piece that stands in none of them leaves cells that
-// the others can't fill.
+// All tilings of a position's empty cells by the available pieces, but for those whose rows cannot go one before the
+// other. A piece that stands in none of them leaves cells that the others can't fill.
 ghost use Rattle.std.specs.Prelude.{◌≡◌, ◌≤◌, ◌<◌, ◌&&◌, ℕ, IsTrue, IfOk, IfSome, IsSomeAnd, All, false, slice_index};
 ghost use Rattle.srs.specs.declared.placement.Placement.{Placement};
 ghost use Rattle.well.specs.Well.{filled};
@@ -29,7 +29,7 @@ use tiled_pieces::{Lister, TilingList};
 /// The most tilings that are listed at once.
 const MOST: usize = 4096;
 
-/// All tilings by pieces with these counts.
+/// All tilings by pieces with these counts whose rows can go one before the other.
 #[derive(Drop)]
 pub struct Mark {
     pub counts: Counts,
@@ -68,12 +68,13 @@ pub fn counts_with(hand: u64, pieces: u8, piece: Piece) -> Counts
     counts
 }
 
-/// The mark of pieces with these counts: all their tilings of the cells, if these can be listed.
+/// The mark of pieces with these counts: their tilings of the cells whose rows can go one before the other, if these can
+/// be listed.
 fn listed(alloc: Global, lister: &mut Lister, cells: &Empties, counts: Counts) -> Option<Mark>
     ensures { IfSome result (IsTrueMark (empty_cells cells.now)) }
 {
     let [_, i, l, o, z, t, j, s] = counts;
-    let tilings = lister.tilings(alloc, cells, &[i, l, o, z, t, j, s], MOST)?;
+    let tilings = lister.ordered_tilings(alloc, cells, &[i, l, o, z, t, j, s], MOST)?;
     Some(Mark { counts, tilings })
 }
 
