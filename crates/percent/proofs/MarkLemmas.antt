@@ -1,39 +1,36 @@
 -- A placement after which a rest is good stands in a listed tiling by the pieces of the rest and its own.
-use Rattle.std.proofs.Common.{ℕ, suc, cond, ◌≡◌, ◌↔◌, ◌∙◌, ◌+◌, ◌-◌, ◌*◌, ◌^◌, ◌%◌, ◌<◌, ◌≤◌, ◌⊎◌, true, false, not, ◌&&◌, ◌||◌, bit_and, bit_or, List, [], ◌∷◌, ◌++◌, length, get_or, map, ap, pos, refl, sym, subst, inl, inr, arith, rules}
-use Rattle.std.proofs.lemmas.List.Folds.{list_all-map}
+use Rattle.std.proofs.Common.{ℕ, suc, cond, ◌≡◌, ◌↔◌, ◌∙◌, ◌+◌, ◌-◌, ◌*◌, ◌^◌, ◌%◌, ◌<◌, ◌≤◌, ◌⊎◌, true, false, ◌&&◌, ◌||◌, bit_and, bit_or, List, [], ◌∷◌, ◌++◌, length, get_or, map, ap, refl, sym, subst, inl, inr, arith, rules}
 use Rattle.std.proofs.Math.Bool.{and-true, or-true, true-or}
-use Rattle.std.proofs.lemmas.Bool.{cases_Bool, cases_lt, cond-true, cond-false, both_ways, eq-eqb, false_from_ne_true, not-true, not_from_false, or_parts}
+use Rattle.std.proofs.lemmas.Bool.{cases_Bool, cases_lt, cond-true, cond-false, both_ways, eq-eqb, false_from_ne_true, or_parts}
 use Rattle.std.specs.Prelude.{All, Contains, Option, Some, None, IfSome, IsSomeAnd, slice_get}
 use Rattle.std.proofs.lemmas.Option.{slice_get_within, get_or_from_slice_get}
 use Rattle.std.proofs.lemmas.List.{get_or_append_left, get_or_push, length-append}
 use Rattle.number_sets.specs.Rising.{has}
 use Rattle.problem.proofs.CallerLemmas.{locked-low}
-use Rattle.srs.proofs.CallerLemmas.{some_same, list_all-from_is_among, piece_code-small}
+use Rattle.srs.proofs.CallerLemmas.{some_same, piece_code-small}
 use Rattle.lane_board.specs.Lanes.{has_bit}
 use Rattle.lane_board.proofs.CallerLemmas.{has_bit-and, has_bit-low, has_bit-or, has_bit-shifted_high, has_bit-zero}
 use Rattle.lane_board.specs.Field.{Field, difference}
 use Rattle.srs.specs.declared.piece.Piece.{Piece}
 use Rattle.srs.specs.declared.placement.Placement.{Placement}
 use Rattle.srs.specs.Piece.{piece_code}
-use Rattle.srs.specs.Cells.{Cell, cells_of}
-use Rattle.srs.specs.SameCells.{is_among}
+use Rattle.srs.specs.Cells.{Cell}
 use Rattle.well.specs.Well.{filled}
 use Rattle.well.specs.Free.{is_free}
-use Rattle.well.specs.Lock.{locked, rows_removed, together}
+use Rattle.well.specs.Lock.{locked, rows_removed}
 use Rattle.well.specs.LockLaws.{is_below}
-use Rattle.well.proofs.CallerLemmas.{free_inside}
-use Rattle.prune.specs.Tiling.{Part, Supply, Tiling, covers, is_empty_below}
+use Rattle.prune.specs.Tiling.{Supply, Tiling, covers, is_empty_below}
 use Rattle.prune.specs.OnePart.{less_one}
-use Rattle.prune.proofs.CallerLemmas.{SendsRows, cell_to, full_rows_may_stand, generalized_to, more_pieces, part_to, placed, placed_empty, placed_generalized, row_to, tiling_to}
+use Rattle.prune.proofs.CallerLemmas.{full_rows_may_stand}
 use Rattle.empty_cells.specs.declared.empties.Empties.{Empties}
-use Rattle.empty_cells.specs.Empties.{all_but, empty_cells, has_cell}
-use Rattle.empty_cells.specs.SentCells.{sent_cells, sent_up}
+use Rattle.empty_cells.specs.Empties.{all_but, empty_cells}
+use Rattle.empty_cells.specs.SentCells.{sent_cells}
 use Rattle.empty_cells.proofs.CallerLemmas.{IsSmall, cells_small}
 use Rattle.tiled_pieces.specs.declared.listed.ListedTiling.{ListedTiling}
-use Rattle.tiled_pieces.specs.TilingLists.{HasPiece, LaidPiece, SomeHas, laid_part}
+use Rattle.tiled_pieces.specs.TilingLists.{HasPiece, SomeHas, laid_part}
 use Rattle.tiled_pieces.specs.Built.{IsGone}
 use Rattle.tiled_pieces.specs.RowOrders.{IsGap, ListsOrdered}
-use Rattle.tiled_pieces.proofs.CallerLemmas.{LiesIn, built-can-go, left_by_part, ordered_part_listed, ordered_rest_listed}
+use Rattle.tiled_pieces.proofs.CallerLemmas.{built-can-go, left_by_part, ordered_part_listed, ordered_rest_listed}
 use Rattle.percent.specs.declared.game.Game.{Game}
 use Rattle.percent.specs.declared.marks.Mark.{Mark}
 use Rattle.percent.specs.declared.position.Child.{Child}
@@ -43,7 +40,7 @@ use Rattle.percent.specs.Fitting.{codes_in, codes_with, supply_at, supply_by}
 use Rattle.percent.specs.GoodHands.{is_good}
 use Rattle.percent.specs.BuiltHands.{IsBuiltBy}
 use Rattle.percent.proofs.BuiltLemmas.{after, good-built, less-small, unbroken}
-use Rattle.percent.proofs.SentLemmas.{laid, laid-sent, left-sent, lies, sent_part, sends, tiled-left}
+use Rattle.percent.proofs.SentLemmas.{laid, laid-sent, left-sent, lies, sent_part, tiled-left}
 use Rattle.percent.specs.Marks.{AreIndexes, HasMarkAt, IsMarkOf, IsStanding, IsTrueMark}
 use Rattle.percent.specs.declared.children.Standing.{Standing}
 use Rattle.percent.specs.Standing.{AreStandingBefore}
@@ -52,8 +49,6 @@ use Rattle.tiled_pieces.specs.Standing.{GrowsBy, Stands}
 use Rattle.percent.specs.Spread.{IsSpread}
 use Rattle.percent.specs.Wanted.{IsWanted}
 use Rattle.percent.proofs.FittingLemmas.{low-position}
-use Rattle.percent.proofs.TestLemmas.{not_false}
-use Rattle.percent.proofs.SpreadLemmas.{NearCell, near, row_of, spread-placed}
 use Rattle.percent.proofs.TiledLemmas.{good-tiled}
 use Rattle.number_sets.proofs.CallerLemmas.{has-at}
 

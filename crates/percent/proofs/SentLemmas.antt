@@ -1,48 +1,25 @@
 -- The tilings of a position's empty cells, in rows of an earlier field.
-use Rattle.std.proofs.Common.{ℕ, ◌≡◌, ◌↔◌, ◌∙◌, ◌+◌, ◌-◌, ◌*◌, ◌^◌, ◌%◌, ◌<◌, ◌≤◌, ◌⊎◌, true, false, not, ◌&&◌, ◌||◌, bit_and, bit_or, List, [], ◌∷◌, ◌++◌, length, get_or, map, ap, pos, refl, sym, subst, inl, inr, arith, rules}
+use Rattle.std.proofs.Common.{ℕ, ◌≡◌, ◌∙◌, ◌<◌, ◌≤◌, true, not, List, get_or, map, ap, pos, sym, subst, arith, rules}
 use Rattle.std.proofs.lemmas.List.Folds.{list_all-map}
-use Rattle.std.proofs.Math.Bool.{and-true, or-true, true-or}
-use Rattle.std.proofs.lemmas.Bool.{cases_Bool, cases_lt, cond-true, cond-false, both_ways, eq-eqb, false_from_ne_true, not-true, not_from_false, or_parts}
-use Rattle.std.specs.Prelude.{All, Contains, Option, Some, None, IfSome, IsSomeAnd, slice_get}
-use Rattle.std.proofs.lemmas.Option.{slice_get_within, get_or_from_slice_get}
-use Rattle.std.proofs.lemmas.List.{get_or_append_left, get_or_push, length-append}
-use Rattle.number_sets.specs.Rising.{has}
-use Rattle.problem.proofs.CallerLemmas.{locked-low}
-use Rattle.srs.proofs.CallerLemmas.{some_same, list_all-from_is_among, piece_code-small}
-use Rattle.lane_board.specs.Lanes.{has_bit}
-use Rattle.lane_board.proofs.CallerLemmas.{has_bit-and, has_bit-low, has_bit-or, has_bit-shifted_high, has_bit-zero}
+use Rattle.std.proofs.lemmas.Bool.{not-true, not_from_false}
+use Rattle.srs.proofs.CallerLemmas.{list_all-from_is_among}
 use Rattle.lane_board.specs.Field.{Field, difference}
-use Rattle.srs.specs.declared.piece.Piece.{Piece}
 use Rattle.srs.specs.declared.placement.Placement.{Placement}
-use Rattle.srs.specs.Piece.{piece_code}
 use Rattle.srs.specs.Cells.{Cell, cells_of}
 use Rattle.srs.specs.SameCells.{is_among}
-use Rattle.well.specs.Well.{filled}
 use Rattle.well.specs.Free.{is_free}
-use Rattle.well.specs.Lock.{locked, rows_removed, together}
+use Rattle.well.specs.Lock.{together}
 use Rattle.well.specs.LockLaws.{is_below}
 use Rattle.well.proofs.CallerLemmas.{free_inside}
 use Rattle.prune.specs.Tiling.{Part, Supply, Tiling}
-use Rattle.prune.specs.OnePart.{less_one}
-use Rattle.prune.proofs.CallerLemmas.{SendsRows, cell_to, full_rows_may_stand, generalized_to, more_pieces, part_to, placed, placed_empty, placed_generalized, row_to, tiling_to}
-use Rattle.empty_cells.specs.declared.empties.Empties.{Empties}
-use Rattle.empty_cells.specs.Empties.{all_but, empty_cells, has_cell}
+use Rattle.prune.proofs.CallerLemmas.{SendsRows, cell_to, generalized_to, part_to, placed, placed_empty, placed_generalized, row_to, tiling_to}
+use Rattle.empty_cells.specs.Empties.{all_but, has_cell}
 use Rattle.empty_cells.specs.SentCells.{sent_cells, sent_up}
-use Rattle.empty_cells.proofs.CallerLemmas.{IsSmall, cells_small}
-use Rattle.tiled_pieces.specs.declared.listed.ListedTiling.{ListedTiling}
-use Rattle.tiled_pieces.specs.TilingLists.{HasPiece, LaidPiece, ListsAll, SomeHas, laid_part}
-use Rattle.percent.specs.declared.game.Game.{Game}
-use Rattle.percent.specs.declared.position.Child.{Child}
-use Rattle.percent.specs.declared.position.Position.{Position}
-use Rattle.percent.specs.Children.{IsChild}
-use Rattle.percent.specs.Fitting.{codes_in, codes_with, supply_at, supply_by}
-use Rattle.percent.specs.GoodHands.{is_good}
-use Rattle.tiled_pieces.specs.declared.standing.StandingPieces.{StandingPieces}
+use Rattle.empty_cells.proofs.CallerLemmas.{IsSmall}
+use Rattle.tiled_pieces.specs.TilingLists.{LaidPiece, laid_part}
 use Rattle.percent.specs.Spread.{IsSpread}
-use Rattle.percent.proofs.FittingLemmas.{low-position}
 use Rattle.percent.proofs.TestLemmas.{not_false}
 use Rattle.percent.proofs.SpreadLemmas.{NearCell, near, row_of, spread-placed}
-use Rattle.number_sets.proofs.CallerLemmas.{has-at}
 use Rattle.tiled_pieces.proofs.CallerLemmas.{LiesIn, left_by_part}
 
 -- the rows of a position are sent to those of a set
