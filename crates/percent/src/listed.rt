@@ -32,8 +32,8 @@ fn all_counts(
     Ok(v)
 }
 
-/// For how many counts of pieces it pays to list all tilings of a position, with one placement to come and then `left`
-/// more. High fields have too many tilings.
+/// For how many counts of pieces it pays to list the ordered tilings of a position, with one placement to come and
+/// then `left` more. High fields have too many.
 fn most_counts(rows: u8, left: u8) -> usize {
     if rows <= 4 && left <= 7 {
         return 64;
@@ -41,7 +41,7 @@ fn most_counts(rows: u8, left: u8) -> usize {
     if left <= 3 { 8 } else { 0 }
 }
 
-/// All tilings at a position by the pieces of some hands, if they can be listed.
+/// All ordered tilings at a position by the pieces of some hands, if they can be listed.
 pub fn marks_of(
     alloc: Global,
     lister: &mut Lister,
@@ -133,7 +133,7 @@ impl Marks {
     }
 }
 
-/// All tilings at the position after a placement by the pieces of some hands, if they can be listed.
+/// All ordered tilings at the position after a placement by the pieces of some hands, if they can be listed.
 pub fn marks_after(
     alloc: Global,
     lister: &mut Lister,

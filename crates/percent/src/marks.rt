@@ -1,5 +1,5 @@
-// All tilings of a position's empty cells by the available pieces, but for those whose rows cannot go one before the
-// other. A piece that stands in none of them leaves cells that the others can't fill.
+// The ordered tilings of a position's empty cells by the available pieces: those whose rows can go one after the other.
+// Placements fill the cells in no other tiling. So where a piece stands in none of these, no perfect clear follows.
 ghost use Rattle.std.specs.Prelude.{◌≡◌, ◌≤◌, ◌<◌, ◌&&◌, ℕ, IsTrue, IfOk, IfSome, IsSomeAnd, All, false, slice_index};
 ghost use Rattle.srs.specs.declared.placement.Placement.{Placement};
 ghost use Rattle.well.specs.Well.{filled};
@@ -29,15 +29,15 @@ use tiled_pieces::{Lister, TilingList};
 /// The most tilings that are listed at once.
 const MOST: usize = 4096;
 
-/// All tilings by pieces with these counts whose rows can go one before the other.
+/// All ordered tilings by pieces with these counts.
 #[derive(Drop)]
 pub struct Mark {
     pub counts: Counts,
     pub tilings: TilingList,
 }
 
-/// A position, and all tilings of its empty cells by some pieces. The tilings lie in the field at which they were listed,
-/// where rows that are removed since then still stand.
+/// A position, and all ordered tilings of its empty cells by some pieces. The tilings lie in the field at which they were
+/// listed, where rows that are removed since then still stand.
 #[derive(Drop)]
 pub struct Marks {
     pub position: Position,
@@ -68,8 +68,7 @@ pub fn counts_with(hand: u64, pieces: u8, piece: Piece) -> Counts
     counts
 }
 
-/// The mark of pieces with these counts: their tilings of the cells whose rows can go one before the other, if these can
-/// be listed.
+/// The mark of pieces with these counts: all their ordered tilings of the cells, if these can be listed.
 fn listed(alloc: Global, lister: &mut Lister, cells: &Empties, counts: Counts) -> Option<Mark>
     ensures { IfSome result (IsTrueMark (empty_cells cells.now)) }
 {
@@ -149,7 +148,7 @@ impl Marks {
         Empties::sent(placement, &self.rows)
     }
 
-    /// Lists all tilings by pieces with these counts, and says whether they could be listed.
+    /// Lists all ordered tilings by pieces with these counts, and says whether they could be listed.
     pub fn list(
         &mut self,
         alloc: Global,

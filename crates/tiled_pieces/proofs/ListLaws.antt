@@ -2,8 +2,8 @@
 use Rattle.srs.specs.Cells.{Cell}
 use Rattle.std.proofs.Common.{◌≡◌, ◌<◌, true, List, ◌∷◌, pos, sym, subst, cond}
 use Rattle.std.proofs.Math.Path.{fun_ext}
-use Rattle.std.specs.List.{Contains, list_all}
-use Rattle.std.proofs.lemmas.List.Elements.{All-head, All-tail}
+use Rattle.std.specs.List.{list_all}
+use Rattle.std.proofs.lemmas.List.Elements.{All-head}
 use Rattle.lane_board.specs.Field.{Field, difference}
 use Rattle.srs.specs.SameCells.{is_among}
 use Rattle.prune.specs.Tiling.{IsGeneralized, Part, Supply, Tiling, covers, is_empty_below}
@@ -54,17 +54,3 @@ pub part_listed : (E : Field) (supply : Supply) (list : List ListedTiling) (part
 part_listed E supply list part lies lists t =
     let both = have_both E supply list part lies lists t in
     record { tiling = both.tiling; listed = both.listed; has = All-head (λ p. HasPiece both.tiling (laid_part p)) part t.parts both.all }
-
--- a list of the tilings that have it lists all tilings of the rest
-pub rest_listed : (E : Field) (supply : Supply) (list kept : List ListedTiling) (part : Part) → LiesIn E supply part → ListsAll E supply list → ((tiling : ListedTiling) → Contains list tiling → HasPiece tiling (laid_part part) → Contains kept tiling) →
-    ListsAll (left_by_part E part) (less_one supply part.piece) kept
-rest_listed E supply list kept part lies lists keeps = record { all = each }
-  where
-    each : (t : Tiling (all_but (left_by_part E part)) 8 (less_one supply part.piece)) → HasParts kept t.parts
-    each t =
-        let both = have_both E supply list part lies lists t in
-        record {
-          tiling = both.tiling;
-          listed = keeps both.tiling both.listed (All-head (λ p. HasPiece both.tiling (laid_part p)) part t.parts both.all);
-          all = All-tail (λ p. HasPiece both.tiling (laid_part p)) part t.parts both.all;
-        }
