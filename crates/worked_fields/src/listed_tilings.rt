@@ -29,6 +29,14 @@ fn tilings_of_small_boxes(rt: HostRuntime) {
     let high = Empties::below(&high, 4);
     assert!(rt; count(rt.alloc(), &high, &[2, 0, 0, 0, 0, 0, 0], 9) == Some(1));
     assert!(rt; count(rt.alloc(), &high, &[0, 0, 2, 0, 0, 0, 0], 9) == Some(3));
+    // Two pieces that each have a row of the other between theirs cannot be put one after the other.
+    let ordered = Lister::new(rt.alloc()).ordered_tilings(
+        rt.alloc(),
+        &high,
+        &[0, 0, 2, 0, 0, 0, 0],
+        9,
+    );
+    assert!(rt; ordered.expect(&rt, "few tilings").tilings.len() == 2);
 }
 
 #[test]
