@@ -9,9 +9,8 @@ ghost use Rattle.percent.specs.Marks.{AreIndexes};
 use crate::kept::Kept;
 use crate::listed::{marks_after, marks_of};
 use crate::marks::{Asked, Marks, fitting_after};
-use crate::order::wanted_first;
 use crate::position::{Child, Position};
-use hands::{not_leading_to, rests_of};
+use hands::{not_leading_to, rests_of, wanted_first};
 use number_sets::{merged, without};
 use pc_outside::NoMemory;
 use reach::Steps;
@@ -132,8 +131,38 @@ fn answered<L: Ledger>(
     merged(alloc, known.as_slice(), found.as_slice())
 }
 
-/// The hands that are good at the position of the marks with one placement to come and then `left` more, piece by piece.
-/// Those that no listed tiling serves are not tried. All answers are kept.
+/// Those of the hands that are not good at the position of the marks with one placement to come and then `left` more,
+/// piece by piece.
+#[cycle(search)]
+fn missed<L: Ledger>(
+    alloc: Global,
+    kept: &mut Kept,
+    marks: &Marks,
+    left: u8,
+    hands: Vec<u64>,
+    steps: &mut Steps<L>,
+) -> Result<Vec<u64>, NoMemory>
+    requires few { left ≤ 19 }
+    requires rises { IsRising hands.items }
+    ensures rises { IfOk result (λ v. IsRising v.items) }
+    ensures members { IfOk result (λ v. (hand : ℕ) → has v.items hand ≡ (has hands.items hand && not (
+        is_good kept.old.game (filled marks.now.position.well) marks.now.position.rows (left + 1) hand))) }
+    ensures game { kept.new.game ≡ kept.old.game }
+    ensures counted { steps.old ≤ steps.new }
+{
+    let order = wanted_first(kept.game.hold, hands.as_slice());
+    let mut open = hands;
+    for piece in order {
+        let hold = kept.game.hold;
+        let rests = rests_of(alloc, hold, piece, open.as_slice())?;
+        let good = tried(alloc, kept, marks, left, piece, rests.as_slice(), steps)?;
+        open = not_leading_to(alloc, hold, piece, open, good.as_slice())?;
+    }
+    Ok(open)
+}
+
+/// The hands that are good at the position of the marks with one placement to come and then `left` more. Those that no
+/// listed tiling serves are not tried, where it pays to ask. All answers are kept.
 #[cycle(search)]
 fn explored<L: Ledger>(
     alloc: Global,
@@ -151,17 +180,17 @@ fn explored<L: Ledger>(
     ensures game { kept.new.game ≡ kept.old.game }
     ensures counted { steps.old ≤ steps.new }
 {
-    let likely = marks.buildable(alloc, &kept.game, left + 1, hands)?;
-    let mut open = Vec::from_slice(alloc, likely.as_slice())?;
-    for piece in wanted_first(kept.game.hold, likely.as_slice()) {
-        let hold = kept.game.hold;
-        let rests = rests_of(alloc, hold, piece, open.as_slice())?;
-        let good = tried(alloc, kept, marks, left, piece, rests.as_slice(), steps)?;
-        open = not_leading_to(alloc, hold, piece, open, good.as_slice())?;
+    if !marks.asks_orders(&kept.game, left + 1) {
+        let all = Vec::from_slice(alloc, hands)?;
+        let bad = missed(alloc, kept, marks, left, all, steps)?;
+        return closed(alloc, kept, &marks.position, left, hands, bad.as_slice());
     }
+    let likely = marks.buildable(alloc, &kept.game, left + 1, hands)?;
+    let tried = Vec::from_slice(alloc, likely.as_slice())?;
+    let open = missed(alloc, kept, marks, left, tried, steps)?;
     let found = without(alloc, likely.as_slice(), open.as_slice())?;
-    let missed = without(alloc, hands, found.as_slice())?;
-    closed(alloc, kept, &marks.position, left, hands, missed.as_slice())
+    let bad = without(alloc, hands, found.as_slice())?;
+    closed(alloc, kept, &marks.position, left, hands, bad.as_slice())
 }
 
 /// The rests that are good after one of the places of a piece, at the position of the marks.

@@ -270,6 +270,11 @@ impl Marks {
         Ok(may)
     }
 
+    /// Whether it pays to ask which hands a listed tiling may serve, with `left` placements to come.
+    pub fn asks_orders(&self, game: &Game, left: u8) -> bool {
+        FEWEST <= left && !self.is_empty() && game.drops()
+    }
+
     /// Those of the hands that a listed tiling may serve, with `left` placements to come. The others are not good.
     pub fn buildable(
         &self,
@@ -286,11 +291,7 @@ impl Marks {
             ≡ (has hands.now hand
             && is_good game.now (filled self.now.position.well) self.now.position.rows left hand)) }
     {
-        let question = Question::new(game, left);
-        if !question.drops || left < FEWEST || self.is_empty() {
-            return Ok(Vec::from_slice(alloc, hands)?);
-        }
-        let may = self.may_serve(alloc, &question, hands)?;
+        let may = self.may_serve(alloc, &Question::new(game, left), hands)?;
         let mut v = Vec::with_capacity(alloc, hands.len())?;
         for index in 0..hands.len() {
             if may[index] {

@@ -1,11 +1,7 @@
-// In which order kinds and positions are tried. The answers are the same in any order.
-ghost use Rattle.std.specs.Prelude.{◌≤◌, ◌<◌, IsPermutation};
-ghost use Rattle.srs.specs.Piece.{all_pieces};
+// In which order positions are tried. The answers are the same in any order.
+ghost use Rattle.std.specs.Prelude.{◌≤◌};
 
 use crate::position::Child;
-use hold_queue::Hold;
-use srs::Piece;
-use std::cmp::Reverse;
 use well::Well;
 
 /// How rough a well is below row `rows`: how often neighbouring cells of a row differ, with both sides of the field
@@ -38,33 +34,4 @@ pub fn rank(child: &Child) -> u64 {
         | u64::from(placement.rotation.place()) << 16
         | u64::from(placement.y) << 8
         | u64::from(placement.x)
-}
-
-/// How many hands want each code. With hold, a hand wants its first and its second piece.
-fn wanted_counts(hold: Hold, hands: &[u64]) -> [u32; 8] {
-    let mut wanted = [0u32; 8];
-    for hand in hands {
-        let first = (*hand % 8) as usize;
-        wanted[first] = wanted[first].wrapping_add(1);
-        if let Hold::Allowed = hold {
-            let second = (*hand / 8 % 8) as usize;
-            wanted[second] = wanted[second].wrapping_add(1);
-        }
-    }
-    wanted
-}
-
-/// How many hands want a kind.
-fn count_of(wanted: &[u32; 8], piece: Piece) -> u32 {
-    wanted[usize::from(piece.code())]
-}
-
-/// All kinds, those that most hands want first.
-pub fn wanted_first(hold: Hold, hands: &[u64]) -> [Piece; 7]
-    ensures { IsPermutation all_pieces result }
-{
-    let wanted = wanted_counts(hold, hands);
-    let mut kinds = Piece::ALL;
-    kinds.sort_unstable_by_key(|piece| Reverse(count_of(&wanted, *piece)));
-    kinds
 }

@@ -66,48 +66,26 @@ answered-returns-then-is_empty-3-clause-members g t c = λ hand.
 seven : (order : List Piece) → IsPermutation all_pieces order → length order ≡ 7
 seven order same = length_permutation all_pieces order same
 
-pub explored-loop-piece-init : goal.explored-loop-piece-init
-explored-loop-piece-init g t c =
+pub missed-loop-piece-preserved : goal.missed-loop-piece-preserved
+missed-loop-piece-preserved g t c =
     let p = c.args.marks.now.position in
-    explore-starts c.wanted_first-piece-items.result c.args.kept.now.game (filled p.well) p.rows c.args.left c.in_ok-likely.likely.items c.in_ok-open.open.items c.args.steps.now
-    (c.in_ok-open.ensures.items ∙ c.as_slice.ensures.value) c.in_ok-likely.ensures.rises
-
-pub explored-loop-piece-preserved : goal.explored-loop-piece-preserved
-explored-loop-piece-preserved g t c =
-    let p = c.args.marks.now.position in
-    explore-step c.wanted_first-piece-items.result c.args.kept.now.game c.loop-piece.kept.game c.tried.new.kept.game (filled p.well) p.rows c.args.left c.in_ok-likely.likely.items
+    explore-step c.wanted_first-order.result c.args.kept.now.game c.loop-piece.kept.game c.tried.new.kept.game (filled p.well) p.rows c.args.left c.args.hands.items
     c.loop-piece.open.items c.as_slice-in-loop-piece.result.now c.loop-piece.open.items
-    c.in_ok-rests.rests.items c.as_slice-in-loop-piece-2.result.now c.in_ok-good.good.items c.as_slice-in-loop-piece-3.result.now c.in_ok-open-2.open.items
+    c.in_ok-rests.rests.items c.as_slice-in-loop-piece-2.result.now c.in_ok-good.good.items c.as_slice-in-loop-piece-3.result.now c.in_ok-open.open.items
     c.args.steps.now c.loop-piece.steps c.tried.new.steps c.loop-piece.piece-index _
-    c.loop-piece.invariant (omega (arith, seven c.wanted_first-piece-items.result c.wanted_first-piece-items.ensures, c.loop-piece-test.true))
+    c.loop-piece.invariant (omega (arith, seven c.wanted_first-order.result c.wanted_first-order.ensures, c.loop-piece-test.true))
     c.as_slice-in-loop-piece.ensures.value c.in_ok-rests.ensures.members
     c.as_slice-in-loop-piece-2.ensures.value c.in_ok-good.ensures.members
     c.in_ok-good.ensures.game c.in_ok-good.ensures.counted
-    c.in_ok-open-2.ensures.rises refl c.as_slice-in-loop-piece-3.ensures.value c.in_ok-open-2.ensures.members
+    c.in_ok-open.ensures.rises refl c.as_slice-in-loop-piece-3.ensures.value c.in_ok-open.ensures.members
 
-pub explored-closed-requires-clause-missed : goal.explored-closed-requires-clause-missed
-explored-closed-requires-clause-missed g t c = λ hand.
+pub missed-returns-clause-members : goal.missed-returns-clause-members
+missed-returns-clause-members g t c = λ hand.
     let p = c.args.marks.now.position in
-    let order = c.wanted_first-piece-items.result in
-    let hands = c.args.hands.now in
-    let likely = c.in_ok-likely.likely.items in
-    let asked = c.loop-piece.open.items in
-    let good : ℕ → Bool = is_good c.loop-piece.kept.game (filled p.well) p.rows (c.args.left + 1) in
-    let likely_is : (hand : ℕ) → (has likely hand && good hand) ≡ (has hands hand && good hand) =
-    subst (λ (game : Game). (hand : ℕ) → (has likely hand && is_good game (filled p.well) p.rows (c.args.left + 1) hand) ≡ (has hands hand && is_good game (filled p.well) p.rows (c.args.left + 1) hand))
-    (sym c.loop-piece.invariant.same) c.in_ok-likely.ensures.members in
-    let asked_is : (hand : ℕ) → has asked hand ≡ (has likely hand && not (good hand)) =
-    explore-open order c.args.kept.now.game c.loop-piece.kept.game (filled p.well) p.rows c.args.left likely asked c.args.steps.now c.loop-piece.steps c.loop-piece.piece-index
-    c.wanted_first-piece-items.ensures c.loop-piece.invariant (omega (arith, seven order c.wanted_first-piece-items.ensures, c.loop-piece-test.false)) in
-    ap (λ l. has l hand) c.as_slice-6.ensures.value
-    ∙ closed-missed hands likely asked c.in_ok-found.found.items c.in_ok-missed.missed.items good likely_is asked_is
-    (λ hand. c.in_ok-found.ensures.members hand ∙ (λ i. has (c.as_slice-3.ensures.value i) hand && not (has (c.as_slice-4.ensures.value i) hand)))
-    (λ hand. c.in_ok-missed.ensures.members hand ∙ ap (λ l. has hands hand && not (has l hand)) c.as_slice-5.ensures.value) hand
-
-pub explored-returns-clause-members : goal.explored-returns-clause-members
-explored-returns-clause-members g t c =
-    let p = c.args.marks.now.position in
-    IfOk-weaker c.closed.result _ _ (λ v h hand. h hand ∙ ap (λ (game : Game). has c.args.hands.now hand && is_good game (filled p.well) p.rows (c.args.left + 1) hand) c.loop-piece.invariant.same) c.closed.ensures.members
+    let order = c.wanted_first-order.result in
+    explore-open order c.args.kept.now.game c.loop-piece.kept.game (filled p.well) p.rows c.args.left c.args.hands.items c.loop-piece.open.items c.args.steps.now c.loop-piece.steps c.loop-piece.piece-index
+    c.wanted_first-order.ensures c.loop-piece.invariant (omega (arith, seven order c.wanted_first-order.ensures, c.loop-piece-test.false)) hand
+    ∙ ap (λ (game : Game). has c.args.hands.items hand && not (is_good game (filled p.well) p.rows (c.args.left + 1) hand)) c.loop-piece.invariant.same
 
 pub tried-returns-then-is_empty-clause-members : goal.tried-returns-then-is_empty-clause-members
 tried-returns-then-is_empty-clause-members g t c = λ rest.

@@ -5,17 +5,20 @@ use Rattle.percent.proofs.GoodSteps.{Exploring, Trying}
 use Rattle.percent.proofs.answered.+search.Given as goal
 
 abbrev pub decreases-answered : goal.decreases-answered
-decreases-answered g l = 3 * l.left
+decreases-answered g l = 4 * l.left
 
 abbrev pub decreases-explored : goal.decreases-explored
-decreases-explored g l = 3 * l.left + 2
+decreases-explored g l = 4 * l.left + 3
+
+abbrev pub decreases-missed : goal.decreases-missed
+decreases-missed g l = 4 * l.left + 2
 
 abbrev pub decreases-tried : goal.decreases-tried
-decreases-tried g l = 3 * l.left + 1
+decreases-tried g l = 4 * l.left + 1
 
-abbrev pub invariant-explored-loop-piece : goal.invariant-explored-loop-piece
-invariant-explored-loop-piece g l =
-    Exploring l.piece-items l.fn.kept.game l.kept.game (filled l.marks.position.well) l.marks.position.rows l.left l.likely.items l.open.items l.fn.steps l.steps l.piece-index
+abbrev pub invariant-missed-loop-piece : goal.invariant-missed-loop-piece
+invariant-missed-loop-piece g l =
+    Exploring l.piece-items l.fn.kept.game l.kept.game (filled l.marks.position.well) l.marks.position.rows l.left l.fn.hands.items l.open.items l.fn.steps l.steps l.piece-index
 
 abbrev pub invariant-tried-loop-child : goal.invariant-tried-loop-child
 invariant-tried-loop-child g l =

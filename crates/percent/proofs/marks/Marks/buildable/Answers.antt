@@ -27,7 +27,7 @@ loop-index-preserved c =
           let none : get_or may index true ≡ false = get_or_default may index true c.index.result.now (omega (arith, within, c.in_ok-may.ensures.size)) ∙ sym c.index.ensures ∙ w.if-index.false in
           rw w.v-is
           (sift-pass (λ _. is_good c.args.game.now (filled p.well) p.rows c.args.left) hands c.loop-index.v.items index c.requires.rises c.loop-index.invariant within
-          (λ _. (λ i. is_good (sym c.new-question.ensures.game i) (filled p.well) p.rows (sym c.new-question.ensures.left i) (get_or hands index 0)) ∙ c.in_ok-may.ensures.each index within none))
+          (λ _. (λ i. is_good (sym c.new.ensures.game i) (filled p.well) p.rows (sym c.new.ensures.left i) (get_or hands index 0)) ∙ c.in_ok-may.ensures.each index within none))
     ]
 
 pub returns-clause-members : goal.returns-clause-members
