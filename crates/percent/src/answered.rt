@@ -109,8 +109,9 @@ fn answered<L: Ledger>(
     if hands.is_empty() {
         return Ok(Vec::new(alloc));
     }
+    let hold = kept.game.hold;
     let Some((known, unknown)) = kept.recalled(alloc, &child.position, left, hands)? else {
-        let below = marks_after(alloc, &mut kept.lister, marks, child, left, hands)?;
+        let below = marks_after(alloc, &mut kept.lister, hold, marks, child, left, hands)?;
         return explored(alloc, kept, &below, left - 1, hands, steps);
     };
     if unknown.is_empty() {
@@ -119,6 +120,7 @@ fn answered<L: Ledger>(
     let below = marks_after(
         alloc,
         &mut kept.lister,
+        hold,
         marks,
         child,
         left,
@@ -246,6 +248,7 @@ pub fn answered_first<L: Ledger>(
     if left == 0 {
         return answered_at_end(alloc, position, hands);
     }
-    let marks = marks_of(alloc, &mut kept.lister, position, left - 1, hands)?;
+    let hold = kept.game.hold;
+    let marks = marks_of(alloc, &mut kept.lister, hold, position, left - 1, hands)?;
     explored(alloc, kept, &marks, left - 1, hands, steps)
 }

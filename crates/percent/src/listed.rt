@@ -8,6 +8,7 @@ use crate::marks::{Mark, Marks, index_of};
 use crate::position::{Child, Position};
 use crate::spread::rows_among;
 use empty_cells::Empties;
+use hold_queue::Hold;
 use pc_outside::NoMemory;
 use std::alloc::Global;
 use tiled_pieces::Lister;
@@ -32,10 +33,19 @@ fn all_counts(
     Ok(v)
 }
 
+/// With at most how many placements to come after one it pays to list tilings on low fields. Where a piece of each
+/// hand stays over, there are many more tilings.
+fn most_left(hold: Hold) -> u8 {
+    match hold {
+        Hold::Avoided => 8,
+        Hold::Allowed => 7,
+    }
+}
+
 /// For how many counts of pieces it pays to list the ordered tilings of a position, with one placement to come and
 /// then `left` more. High fields have too many.
-fn most_counts(rows: u8, left: u8) -> usize {
-    if rows <= 4 && left <= 7 {
+fn most_counts(hold: Hold, rows: u8, left: u8) -> usize {
+    if rows <= 4 && left <= most_left(hold) {
         return 64;
     }
     if left <= 3 { 8 } else { 0 }
@@ -45,6 +55,7 @@ fn most_counts(rows: u8, left: u8) -> usize {
 pub fn marks_of(
     alloc: Global,
     lister: &mut Lister,
+    hold: Hold,
     position: &Position,
     left: u8,
     hands: &[u64],
@@ -52,7 +63,7 @@ pub fn marks_of(
     requires { left ≤ 20 }
     ensures { IfOk result (λ marks. marks.position ≡ position.now) }
 {
-    let all = all_counts(alloc, hands, left + 2, most_counts(position.rows, left))?;
+    let all = all_counts(alloc, hands, left + 2, most_counts(hold, position.rows, left))?;
     let mut marks = Marks::new(alloc, position);
     for counts in &all {
         if !marks.list(alloc, lister, *counts)? {
@@ -137,6 +148,7 @@ impl Marks {
 pub fn marks_after(
     alloc: Global,
     lister: &mut Lister,
+    hold: Hold,
     marks: &Marks,
     child: &Child,
     left: u8,
@@ -149,7 +161,7 @@ pub fn marks_after(
     ensures { IfOk result (λ marks. marks.position ≡ child.now.position) }
 {
     if marks.is_empty() {
-        return marks_of(alloc, lister, &child.position, left - 1, hands);
+        return marks_of(alloc, lister, hold, &child.position, left - 1, hands);
     }
     marks.after(alloc, child, left, hands)
 }

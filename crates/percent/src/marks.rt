@@ -26,8 +26,8 @@ use srs::{Piece, Placement};
 use std::alloc::Global;
 use tiled_pieces::{Lister, TilingList};
 
-/// The most tilings that are listed at once.
-const MOST: usize = 4096;
+/// The most tilings that are listed at a position.
+const MOST: usize = 131_072;
 
 /// All ordered tilings by pieces with these counts.
 #[derive(Drop)]
@@ -68,12 +68,18 @@ pub fn counts_with(hand: u64, pieces: u8, piece: Piece) -> Counts
     counts
 }
 
-/// The mark of pieces with these counts: all their ordered tilings of the cells, if these can be listed.
-fn listed(alloc: Global, lister: &mut Lister, cells: &Empties, counts: Counts) -> Option<Mark>
+/// The mark of pieces with these counts: all their ordered tilings of the cells, if there are at most `most` of them.
+fn listed(
+    alloc: Global,
+    lister: &mut Lister,
+    cells: &Empties,
+    counts: Counts,
+    most: usize,
+) -> Option<Mark>
     ensures { IfSome result (IsTrueMark (empty_cells cells.now)) }
 {
     let [_, i, l, o, z, t, j, s] = counts;
-    let tilings = lister.ordered_tilings(alloc, cells, &[i, l, o, z, t, j, s], MOST)?;
+    let tilings = lister.ordered_tilings(alloc, cells, &[i, l, o, z, t, j, s], most)?;
     Some(Mark { counts, tilings })
 }
 
@@ -148,6 +154,15 @@ impl Marks {
         Empties::sent(placement, &self.rows)
     }
 
+    /// How many tilings are listed.
+    fn len(&self) -> usize {
+        let mut count = 0usize;
+        for mark in &self.known {
+            count = count.saturating_add(mark.tilings.tilings.len());
+        }
+        count
+    }
+
     /// Lists all ordered tilings by pieces with these counts, and says whether they could be listed.
     pub fn list(
         &mut self,
@@ -157,7 +172,8 @@ impl Marks {
     ) -> Result<bool, NoMemory>
         ensures { self.new.position ≡ self.old.position }
     {
-        let Some(mark) = listed(alloc, lister, &self.cells, counts) else {
+        let most = MOST.saturating_sub(self.len());
+        let Some(mark) = listed(alloc, lister, &self.cells, counts, most) else {
             return Ok(false);
         };
         self.known.push(mark)?;
