@@ -69,7 +69,7 @@ pending-ends question E mark hands weights allowed open_hands pending i k all no
 -- ---- hands that are refused
 
 pub refused-bad : (p : Position) (question : Question) (hand : ℕ) (rows : List ℕ) (cells : Empties) (mark : Mark) → IsSpread (filled p.well) p.rows rows (empty_cells cells)
-    → IsTrueMark (empty_cells cells) mark → IsEnough mark question.left hand → IsRefused question (empty_cells cells) mark hand
+    → IsTrueMark (empty_cells cells) mark → IsEnough mark.counts question.left hand → IsRefused question (empty_cells cells) mark hand
     → is_good question.game (filled p.well) p.rows question.left hand ≡ false
 refused-bad p question hand rows cells mark spread is enough refused =
     unserved-bad question.game question.drops p question.left hand refused.bit rows refused.weights refused.allowed cells mark question.hard spread enough.each is refused.allows refused.none
@@ -140,17 +140,15 @@ marks-end known left hands indexes i all state = record { size = state.size ∙ 
 pub mark-for : (known : List Mark) (left hand : ℕ) (counts : List ℕ) (index : Option ℕ) → ((code : ℕ) → code < 8 → get_or counts code 0 ≡ codes_in (left + 1) hand code)
     → IfSome index (λ p. HasMarkAt known p counts) → IfSome index (IsMarkFor known left hand)
 mark-for known left hand counts None same there = there
-mark-for known left hand counts (Some index) same there = record { counts = counts; there = there; enough = λ code few. let equal = same code few in omega (arith, equal) }
+mark-for known left hand counts (Some index) same there = record { counts = counts; there = there; enough = record { each = λ code few. let equal = same code few in omega (arith, equal) } }
 
 -- the mark at the known index of a hand
 pub mark-here : (known : List Mark) (left : ℕ) (hands : List ℕ) (indexes : List (Option ℕ)) (at index : ℕ) (mark : Mark) → AreMarksFor known left hands indexes → at < length hands → get_or indexes at None ≡ Some index
     → slice_get known index ≡ Some mark → IsHandOf mark left hands at
-mark-here known left hands indexes at index mark are within is there = record {
-  within = within;
-  enough = record {
-    each = λ code few.
-        let found : IsMarkFor known left (get_or hands at 0) index = subst (λ (o : Option ℕ). IfSome o (IsMarkFor known left (get_or hands at 0))) is (are.each at within) in
-        let one : found.there.mark ≡ mark = some_same (sym found.there.there ∙ there) in
-        subst (λ (counts : List ℕ). codes_in (left + 1) (get_or hands at 0) code ≤ get_or counts code 0) (sym found.there.same ∙ ap (λ (m : Mark). m.counts) one) (found.enough code few);
-  };
-}
+mark-here known left hands indexes at index mark are within is there =
+    let found : IsMarkFor known left (get_or hands at 0) index = subst (λ (o : Option ℕ). IfSome o (IsMarkFor known left (get_or hands at 0))) is (are.each at within) in
+    let one : found.there.mark ≡ mark = some_same (sym found.there.there ∙ there) in
+    record {
+      within = within;
+      enough = subst (λ counts. IsEnough counts left (get_or hands at 0)) (sym found.there.same ∙ ap (λ (m : Mark). m.counts) one) found.enough;
+    }

@@ -131,16 +131,6 @@ pub closed-found : (hands asked found : List ℕ) (good : ℕ → Bool) → ((ha
     → (hand : ℕ) → has found hand ≡ (has hands hand && good hand)
 closed-found hands asked found good asked_is found_is hand = search (rules, taken_back)
 
-rest_back : (w a : Bool) → (w && not (w && a)) ≡ (w && not a)
-rest_back w a = search rules
-
--- the others of all hands are missed, where some were left out that aren't good
-pub closed-missed : (hands likely asked found missed : List ℕ) (good : ℕ → Bool) → ((hand : ℕ) → (has likely hand && good hand) ≡ (has hands hand && good hand))
-    → ((hand : ℕ) → has asked hand ≡ (has likely hand && not (good hand))) → ((hand : ℕ) → has found hand ≡ (has likely hand && not (has asked hand)))
-    → ((hand : ℕ) → has missed hand ≡ (has hands hand && not (has found hand))) → (hand : ℕ) → has missed hand ≡ (has hands hand && not (good hand))
-closed-missed hands likely asked found missed good likely_is asked_is found_is missed_is hand =
-    missed_is hand ∙ ap (λ b. has hands hand && not b) (closed-found likely asked found good asked_is found_is hand ∙ likely_is hand) ∙ rest_back (has hands hand) (good hand)
-
 not_second : (w t : Bool) → (w && not t) ≡ true → t ≡ false
 not_second w t there = search rules
 

@@ -33,15 +33,15 @@ pub record IsRefused (question : Question) (E : Field) (mark : Mark) (hand : ℕ
   pub none : (tiling : ListedTiling) → Contains mark.tilings.tilings.items tiling
       → IsServed tiling E question.drops weights allowed bit → ⊥
 
--- a mark is of enough pieces for a hand
-pub record IsEnough (mark : Mark) (left hand : ℕ) : Type 0 where
-  pub each : (code : ℕ) → code < 8 → codes_in (left + 1) hand code ≤ slice_index mark.counts code
+-- these counts are of enough pieces for a hand
+pub record IsEnough (counts : List ℕ) (left hand : ℕ) : Type 0 where
+  pub each : (code : ℕ) → code < 8 → codes_in (left + 1) hand code ≤ slice_index counts code
 
 -- the mark at this index is of enough pieces for a hand
 pub record IsMarkFor (known : List Mark) (left hand index : ℕ) : Type 0 where
   pub counts : List ℕ
   pub there : HasMarkAt known index counts
-  pub enough : (code : ℕ) → code < 8 → codes_in (left + 1) hand code ≤ slice_index counts code
+  pub enough : IsEnough counts left hand
 
 -- for each hand the index of the mark of its pieces, if there is one
 pub record AreMarksFor (known : List Mark) (left : ℕ) (hands : List ℕ) (indexes : List (Option ℕ)) : Type 0 where
@@ -51,7 +51,7 @@ pub record AreMarksFor (known : List Mark) (left : ℕ) (hands : List ℕ) (inde
 -- one of the hands, for which a mark is of enough pieces
 pub record IsHandOf (mark : Mark) (left : ℕ) (hands : List ℕ) (index : ℕ) : Type 0 where
   pub within : index < length hands
-  pub enough : IsEnough mark left (slice_index hands index)
+  pub enough : IsEnough mark.counts left (slice_index hands index)
 
 -- a block is of some of the hands, for each of which a mark is of enough pieces
 pub record IsBlock (mark : Mark) (left : ℕ) (hands : List ℕ) (block : Block) : Type 0 where

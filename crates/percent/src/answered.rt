@@ -188,8 +188,8 @@ fn explored<L: Ledger>(
         return closed(alloc, kept, &marks.position, left, hands, bad.as_slice());
     }
     let likely = marks.buildable(alloc, &kept.game, left + 1, hands)?;
-    let tried = Vec::from_slice(alloc, likely.as_slice())?;
-    let open = missed(alloc, kept, marks, left, tried, steps)?;
+    let all = Vec::from_slice(alloc, likely.as_slice())?;
+    let open = missed(alloc, kept, marks, left, all, steps)?;
     let found = without(alloc, likely.as_slice(), open.as_slice())?;
     let bad = without(alloc, hands, found.as_slice())?;
     closed(alloc, kept, &marks.position, left, hands, bad.as_slice())

@@ -9,13 +9,11 @@ use crate::fitting::counts_of;
 use crate::game::Game;
 use crate::marks::{Mark, Marks, index_of};
 use empty_cells::Empties;
+use hold_queue::Hold;
 use moves::DropMode;
 use pc_outside::NoMemory;
 use std::alloc::Global;
 use tiled_pieces::served_hands;
-
-/// With fewer placements to come the test costs more than what it spares, and so it does with soft drops.
-const FEWEST: u8 = 4;
 
 /// What is asked of hands: whether they may be good in a game with `left` placements to come. `drops` says that nothing
 /// may lie above a placement.
@@ -45,6 +43,16 @@ impl Game {
         match self.drop_mode {
             DropMode::Hard => self.rules.is_srs(),
             DropMode::Soft => false,
+        }
+    }
+
+    /// Whether it pays to ask which hands a tiling may serve, with `left` placements to come. With fewer or more of
+    /// them the test costs more than what it spares.
+    fn asks_orders(&self, left: u8) -> bool {
+        match (self.drops(), self.hold) {
+            (true, _) => (4..=8).contains(&left),
+            (false, Hold::Avoided) => (6..=7).contains(&left),
+            (false, Hold::Allowed) => false,
         }
     }
 }
@@ -272,7 +280,7 @@ impl Marks {
 
     /// Whether it pays to ask which hands a listed tiling may serve, with `left` placements to come.
     pub fn asks_orders(&self, game: &Game, left: u8) -> bool {
-        FEWEST <= left && !self.is_empty() && game.drops()
+        !self.is_empty() && game.asks_orders(left)
     }
 
     /// Those of the hands that a listed tiling may serve, with `left` placements to come. The others are not good.

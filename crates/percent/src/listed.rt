@@ -63,7 +63,12 @@ pub fn marks_of(
     requires { left ≤ 20 }
     ensures { IfOk result (λ marks. marks.position ≡ position.now) }
 {
-    let all = all_counts(alloc, hands, left + 2, most_counts(hold, position.rows, left))?;
+    let all = all_counts(
+        alloc,
+        hands,
+        left + 2,
+        most_counts(hold, position.rows, left),
+    )?;
     let mut marks = Marks::new(alloc, position);
     for counts in &all {
         if !marks.list(alloc, lister, *counts)? {

@@ -15,7 +15,7 @@ use Rattle.percent.specs.Children.{IsChild}
 use Rattle.percent.specs.Marks.{AreIndexes, IsStanding}
 use Rattle.percent.specs.GoodHands.{is_good, is_good_after, is_good_at}
 use Rattle.std.proofs.lemmas.Result.{IfOk-weaker}
-use Rattle.percent.proofs.GoodSteps.{good-ends, answer-kept, answer-known, closed-missed, explore-open, explore-starts, explore-step, try-ends, try-step, try-starts}
+use Rattle.percent.proofs.GoodSteps.{good-ends, answer-kept, answer-known, explore-open, explore-step, try-ends, try-step, try-starts}
 use Rattle.percent.proofs.answered.+search.Goals as goal
 
 -- what holds of a value that may be there holds of the one that is
