@@ -19,7 +19,7 @@ use Rattle.empty_cells.proofs.CallerLemmas.{IsSmall, total}
 use Rattle.tiled_pieces.specs.declared.list.TilingList.{TilingList}
 use Rattle.tiled_pieces.specs.declared.listed.ListedTiling.{ListedTiling}
 use Rattle.tiled_pieces.specs.declared.listing.Listing.{Listing}
-use Rattle.tiled_pieces.specs.TilingLists.{HasParts, HasPiece, IsListed, LaidPiece, ListsAll, ListsOnly, SomeHas, StandsInTiling, laid_at, laid_part, laid_placement}
+use Rattle.tiled_pieces.specs.TilingLists.{HasParts, HasPiece, IsListed, LaidPiece, ListsAll, ListsOnly, SomeHas, StandsInTiling, laid_at, laid_part, laid_placement, most_pieces}
 use Rattle.tiled_pieces.specs.RowOrders.{CanGo, ListsOrdered}
 use Rattle.tiled_pieces.specs.RowBits.{Follows, ListsThose}
 use Rattle.tiled_pieces.specs.Listings.{Adds, GoesOn, HasFirst, IsAny, Lies, Spells, no_piece, path_of}
@@ -29,8 +29,8 @@ use Rattle.tiled_pieces.proofs.RowOrderLemmas.{agrees_none}
 use Rattle.tiled_pieces.proofs.StandsLemmas.{listed_stands}
 
 -- no piece at any index
-pub nowhere : (none : Empties) → empty_cells none ≡ empty_field → (index : ℕ) → index < 8 →
-    laid_at (record { kinds = I ∷ I ∷ I ∷ I ∷ I ∷ I ∷ I ∷ I ∷ []; cells = none ∷ none ∷ none ∷ none ∷ none ∷ none ∷ none ∷ none ∷ [] }) index ≡ no_piece
+pub nowhere : (none : Empties) → empty_cells none ≡ empty_field → (index : ℕ) → index < most_pieces →
+    laid_at (record { kinds = I ∷ I ∷ I ∷ I ∷ I ∷ I ∷ I ∷ I ∷ I ∷ []; cells = none ∷ none ∷ none ∷ none ∷ none ∷ none ∷ none ∷ none ∷ none ∷ [] }) index ≡ no_piece
 unfolding laid_at
 nowhere none is h2 low = search rules
 
@@ -43,7 +43,7 @@ has_spelled tiling found laid spells (index, below, is) = record {
 }
 
 -- and at each index one of them, or nothing
-pub spelled_at : (tiling : ListedTiling) (found : List LaidPiece) → Spells tiling found → (index : ℕ) → index < 8 → HasNoCell (laid_at tiling index).cells ⊎ Contains found (laid_at tiling index)
+pub spelled_at : (tiling : ListedTiling) (found : List LaidPiece) → Spells tiling found → (index : ℕ) → index < most_pieces → HasNoCell (laid_at tiling index).cells ⊎ Contains found (laid_at tiling index)
 unfolding empty_field
 spelled_at tiling found spells index low = search (rules, cases_lt, Contains-get_or, get_or_past)
 

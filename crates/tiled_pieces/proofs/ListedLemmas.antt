@@ -12,7 +12,7 @@ use Rattle.srs.proofs.CallerLemmas.{piece_code-injective}
 use Rattle.empty_cells.specs.declared.empties.Empties.{Empties}
 use Rattle.empty_cells.specs.Empties.{empty_cells}
 use Rattle.tiled_pieces.specs.declared.listed.ListedTiling.{ListedTiling}
-use Rattle.tiled_pieces.specs.TilingLists.{HasPiece, LaidPiece, SomeHas, laid_at}
+use Rattle.tiled_pieces.specs.TilingLists.{HasPiece, LaidPiece, SomeHas, laid_at, most_pieces}
 
 -- the piece at an index is this one exactly where the kind and the cells are these
 pub laid_is : (tiling : ListedTiling) (index : ℕ) (e : Empties) (piece kind : Piece) (cells : Field) (same equal : Bool) → index < length tiling.cells → kind ≡ get_or tiling.kinds index I →
@@ -39,7 +39,7 @@ none_first tiling laid = record { none = λ k below. absurd (omega arith) }
 pub none_next : (tiling : ListedTiling) (laid : LaidPiece) (index : ℕ) (answer : Bool) → NoneBefore tiling laid index → ((answer ≡ true) ↔ (laid_at tiling index ≡ laid)) → answer ≡ false → NoneBefore tiling laid (index + 1)
 none_next tiling laid index answer before both none_here = search (rules, cases_eq, false≢true)
 
-pub none_at_all : (tiling : ListedTiling) (laid : LaidPiece) (index : ℕ) → NoneBefore tiling laid index → 8 ≤ index → HasPiece tiling laid → ⊥
+pub none_at_all : (tiling : ListedTiling) (laid : LaidPiece) (index : ℕ) → NoneBefore tiling laid index → most_pieces ≤ index → HasPiece tiling laid → ⊥
 none_at_all tiling laid index before last has = before.none has.index (omega (arith, has.known, last)) has.there
 
 -- none of the tilings before this one has the piece

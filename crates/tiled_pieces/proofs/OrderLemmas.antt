@@ -7,7 +7,7 @@ use Rattle.srs.specs.declared.piece.Piece.TheVariants.{I}
 use Rattle.srs.specs.Piece.{piece_code}
 use Rattle.empty_cells.specs.Spans.{HasNoCell}
 use Rattle.tiled_pieces.specs.declared.listed.ListedTiling.{ListedTiling}
-use Rattle.tiled_pieces.specs.TilingLists.{HasPiece, LaidPiece, laid_at}
+use Rattle.tiled_pieces.specs.TilingLists.{HasPiece, LaidPiece, laid_at, most_pieces}
 use Rattle.tiled_pieces.specs.declared.laid.Laid.{Laid}
 use Rattle.tiled_pieces.specs.Built.{AreBuilt, Fits}
 use Rattle.tiled_pieces.specs.Orders.{HasLaid, HasOrder, HasThose, LiesIn, UsesUp, cells_at, weight_at}
@@ -25,7 +25,7 @@ fits_same F drops a b same fits = record {
     back : (x y : ℕ) → b.cells x y ≡ true → a.cells x y ≡ true
     back x y here = ap (λ (G : Field). G x y) same ∙ here
 
-module _ (tiling : ListedTiling) (weights allowed : List ℕ) (bit : ℕ) (drops : Bool) (pieces : List Laid) (E : Field) (those : HasThose tiling E weights pieces 8) where
+module _ (tiling : ListedTiling) (weights allowed : List ℕ) (bit : ℕ) (drops : Bool) (pieces : List Laid) (E : Field) (those : HasThose tiling E weights pieces most_pieces) where
   -- pieces of the tiling use up a set, from a number on
   pub record Serves (F : Field) (number : ℕ) : Type 0 where
     pub order : List LaidPiece

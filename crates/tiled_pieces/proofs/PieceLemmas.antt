@@ -7,7 +7,7 @@ use Rattle.lane_board.specs.Field.{Field}
 use Rattle.lane_board.specs.Lanes.{has_bit}
 use Rattle.srs.specs.Piece.{piece_code}
 use Rattle.tiled_pieces.specs.declared.listed.ListedTiling.{ListedTiling}
-use Rattle.tiled_pieces.specs.TilingLists.{LaidPiece, laid_at}
+use Rattle.tiled_pieces.specs.TilingLists.{LaidPiece, laid_at, most_pieces}
 use Rattle.tiled_pieces.specs.declared.laid.Laid.{Laid}
 use Rattle.tiled_pieces.specs.Orders.{HasLaid, HasThose, IsAt, LiesIn, cells_at, weight_at}
 use Rattle.tiled_pieces.specs.Words.{field_of}
@@ -84,7 +84,7 @@ module _ (tiling : ListedTiling) (E : Field) (weights : List ℕ) (pieces : List
     weight = at_last (λ (piece : Laid). piece.weight) pieces x ∙ weight;
   }
 
-  pub those_added : (x : Laid) → n < 8 → field_of x.cells ≡ (laid_at tiling n).cells → x.weight ≡ slice_index weights (piece_code (laid_at tiling n).piece) → HasThose tiling E weights (pieces ++ x ∷ []) (n + 1)
+  pub those_added : (x : Laid) → n < most_pieces → field_of x.cells ≡ (laid_at tiling n).cells → x.weight ≡ slice_index weights (piece_code (laid_at tiling n).piece) → HasThose tiling E weights (pieces ++ x ∷ []) (n + 1)
   those_added x low cells weight = record {
     only = λ j known. elim (cases_eq j (length pieces)) [
       | inl same ↦ record { place = n; low = low; here = subst (IsAt weights (pieces ++ x ∷ []) (laid_at tiling n)) (sym same) last }

@@ -47,28 +47,28 @@ module _ (pieces : List Laid) (drops : Bool) (allowed : List ℕ) (pending : ℕ
   no_number zero = refl
   no_number (suc n) = ap (λ (b : Bool). number_after pieces 0 n + (if b then weight_at pieces n else 0)) (has_bit-zero n) ∙ omega (arith, no_number n)
 
-  zeros : (s : ℕ) → slice_index (replicate 256 0) s ≡ 0
-  zeros s = elim (cases_lt s 256) [
-    | inl low ↦ get_or-replicate 256 s 0 0 low
-    | inr high ↦ get_or_past (replicate 256 0) s 0 high
+  zeros : (s : ℕ) → slice_index (replicate 512 0) s ≡ 0
+  zeros s = elim (cases_lt s 512) [
+    | inl low ↦ get_or-replicate 512 s 0 0 low
+    | inr high ↦ get_or_past (replicate 512 0) s 0 high
   ]
 
-  pub walk_start : Walked (slice_set (replicate 256 0) 0 pending) 0 0
+  pub walk_start : Walked (slice_set (replicate 512 0) 0 pending) 0 0
   walk_start = record {
     comes = λ bit pends some. inr (record {
       set = 0;
       from = omega arith;
       below = pow_pos (length pieces);
-      has = ap (λ n. has_bit n bit) (get_or-set_same (replicate 256 0) 0 pending 0 (omega arith)) ∙ pends;
+      has = ap (λ n. has_bit n bit) (get_or-set_same (replicate 512 0) 0 pending 0 (omega arith)) ∙ pends;
       more = some.order;
       goes = uses_same bit _ _ _ _ some.order (sym (none_left (length pieces))) (sym (no_number (length pieces))) some.uses_up;
     });
     came = λ set bit has. elim (cases_eq set 0) [
       | inl same ↦ rw same (record {
-        pends = ap (λ n. has_bit n bit) (sym (get_or-set_same (replicate 256 0) 0 pending 0 (omega arith))) ∙ ap (λ s. has_bit (slice_index (slice_set (replicate 256 0) 0 pending) s) bit) (sym same) ∙ has;
+        pends = ap (λ n. has_bit n bit) (sym (get_or-set_same (replicate 512 0) 0 pending 0 (omega arith))) ∙ ap (λ s. has_bit (slice_index (slice_set (replicate 512 0) 0 pending) s) bit) (sym same) ∙ has;
         orders = λ more goes. record { order = more; uses_up = uses_same bit _ _ _ _ more (none_left (length pieces)) (no_number (length pieces)) goes };
       })
-      | inr other ↦ absurd (both_ways _ (ap (λ n. has_bit n bit) (get_or-set_other (replicate 256 0) 0 set pending 0 other ∙ zeros set) ∙ has_bit-zero bit) has)
+      | inr other ↦ absurd (both_ways _ (ap (λ n. has_bit n bit) (get_or-set_other (replicate 512 0) 0 set pending 0 other ∙ zeros set) ∙ has_bit-zero bit) has)
     ];
     found_is = λ bit has. absurd (both_ways _ (has_bit-zero bit) has);
   }

@@ -17,7 +17,7 @@ use Rattle.tiled_pieces.specs.declared.cover.Cover.{Cover}
 use Rattle.tiled_pieces.specs.declared.listed.ListedTiling.{ListedTiling}
 use Rattle.tiled_pieces.specs.declared.listing.Listing.{Listing}
 use Rattle.tiled_pieces.specs.declared.path.Path.{Path}
-use Rattle.tiled_pieces.specs.TilingLists.{LaidPiece, laid_at, laid_part}
+use Rattle.tiled_pieces.specs.TilingLists.{LaidPiece, laid_at, laid_part, most_pieces}
 use Rattle.tiled_pieces.specs.RowBits.{GoesFrom}
 
 -- no piece, as at the indexes of a listed tiling past its last one
@@ -89,10 +89,10 @@ pub record TakesFirst (Next : Field → LaidPiece → Type 0) (supply : Supply) 
   pub has : 0 < supply piece
   pub stacks : StacksSome Next (less_one supply piece) E x y piece path found
 
--- the pieces of a listed tiling, at most eight
+-- the pieces of a listed tiling
 pub record Spells (tiling : ListedTiling) (found : List LaidPiece) : Type 0 where
-  pub few : length found ≤ 8
-  pub each : (index : ℕ) → index < 8 → laid_at tiling index ≡ slice_index_or found index no_piece
+  pub few : length found ≤ most_pieces
+  pub each : (index : ℕ) → index < most_pieces → laid_at tiling index ≡ slice_index_or found index no_piece
 
 -- these pieces are listed
 pub record Lists (list : List ListedTiling) (found : List LaidPiece) : Type 0 where

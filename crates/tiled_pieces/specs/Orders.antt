@@ -6,7 +6,7 @@ use Rattle.srs.specs.declared.piece.Piece.TheVariants.{I}
 use Rattle.srs.specs.Piece.{piece_code}
 use Rattle.empty_cells.specs.Spans.{HasNoCell}
 use Rattle.tiled_pieces.specs.declared.listed.ListedTiling.{ListedTiling}
-use Rattle.tiled_pieces.specs.TilingLists.{LaidPiece, laid_at}
+use Rattle.tiled_pieces.specs.TilingLists.{LaidPiece, laid_at, most_pieces}
 use Rattle.tiled_pieces.specs.declared.laid.Laid.{Laid}
 use Rattle.tiled_pieces.specs.Built.{Fits}
 use Rattle.tiled_pieces.specs.Words.{field_of}
@@ -93,7 +93,7 @@ pub record HasLaid (weights : List ℕ) (pieces : List Laid) (laid : LaidPiece) 
 -- a piece of a tiling is at an index
 pub record IsOf (tiling : ListedTiling) (weights : List ℕ) (pieces : List Laid) (j : ℕ) : Type 0 where
   pub place : ℕ
-  pub low : place < 8
+  pub low : place < most_pieces
   pub here : IsAt weights pieces (laid_at tiling place) j
 
 -- a list has pieces of a tiling alone, and those of the first n places that lie in a set

@@ -13,6 +13,10 @@ use Rattle.empty_cells.specs.Empties.{all_but, empty_cells, has_cell, without_pl
 use Rattle.empty_cells.specs.Spans.{HasNoCell}
 use Rattle.tiled_pieces.specs.declared.listed.ListedTiling.{ListedTiling}
 
+-- the most pieces of a listed tiling
+abbrev pub most_pieces : ℕ
+most_pieces = 9
+
 -- a piece that is laid: its kind, and the cells that it covers
 pub record LaidPiece : Type 0 where
   pub piece : Piece
@@ -34,10 +38,10 @@ laid_at tiling index = record {
   cells = slice_index_or (map empty_cells tiling.cells) index empty_field;
 }
 
--- a listed tiling has a piece at one of its eight places
+-- a listed tiling has a piece at one of its places
 pub record HasPiece (tiling : ListedTiling) (laid : LaidPiece) : Type 0 where
   pub index : ℕ
-  pub known : index < 8
+  pub known : index < most_pieces
   pub there : laid_at tiling index ≡ laid
 
 -- some listed tiling has a piece
@@ -59,7 +63,7 @@ pub record ListsAll (E : Field) (supply : Supply) (list : List ListedTiling) : T
 -- the pieces of a listed tiling are parts of a tiling of a set of cells; its further places have no cell
 pub record IsListed (E : Field) (supply : Supply) (tiling : ListedTiling) : Type 0 where
   pub whole : Tiling (all_but E) 8 supply
-  pub each : (index : ℕ) → index < 8 → HasNoCell (laid_at tiling index).cells
+  pub each : (index : ℕ) → index < most_pieces → HasNoCell (laid_at tiling index).cells
       ⊎ Contains (map laid_part whole.parts) (laid_at tiling index)
 
 -- nothing but tilings of a set of cells by a supply is listed

@@ -7,7 +7,7 @@ ghost use Rattle.tiled_pieces.specs.Served.{IsServed};
 ghost use Rattle.tiled_pieces.specs.Words.{field_of};
 
 use crate::laid::Laid;
-use crate::listed::ListedTiling;
+use crate::listed::{ListedTiling, MOST_PIECES};
 use crate::walk::served;
 use crate::words::without;
 use empty_cells::Empties;
@@ -26,13 +26,13 @@ fn lies_in(piece: u128, cells: u128) -> bool
 
 /// The pieces of a tiling that lie in a set, and how many there are.
 #[inline(always)]
-fn those_in(tiling: &ListedTiling, cells: u128, weights: &[u16; 8]) -> ([Laid; 8], usize)
-    ensures few { result.1 ≤ 8 }
-    ensures those { HasThose tiling.now (field_of cells) weights.now (take result.1 result.0) 8 }
+fn those_in(tiling: &ListedTiling, cells: u128, weights: &[u16; 8]) -> ([Laid; MOST_PIECES], usize)
+    ensures few { result.1 ≤ MOST_PIECES }
+    ensures those { HasThose tiling.now (field_of cells) weights.now (take result.1 result.0) MOST_PIECES }
 {
-    let mut pieces = [Laid::new(0, 0); 8];
+    let mut pieces = [Laid::new(0, 0); MOST_PIECES];
     let mut count = 0;
-    for index in 0..8 {
+    for index in 0..MOST_PIECES {
         let (kind, empties) = tiling.piece_at(index);
         let piece = empties.bits();
         if lies_in(piece, cells) {

@@ -19,6 +19,6 @@ mod words;
 
 pub use hands::served_hands;
 pub use list::TilingList;
-pub use listed::ListedTiling;
+pub use listed::{ListedTiling, MOST_PIECES};
 pub use lister::Lister;
 pub use standing::{StandingPiece, StandingPieces};

@@ -5,12 +5,14 @@ ghost use Rattle.empty_cells.specs.Empties.{empty_cells};
 use empty_cells::Empties;
 use srs::Piece;
 
-/// A tiling: the kind and the cells of each of its pieces, which are at most eight. The places past the last piece have
-/// no cells.
+/// The most pieces of a listed tiling.
+pub const MOST_PIECES: usize = 9;
+
+/// A tiling: the kind and the cells of each of its pieces. The places past the last piece have no cells.
 #[derive(Clone, Copy)]
 pub struct ListedTiling {
-    pub(crate) kinds: [Piece; 8],
-    pub(crate) cells: [Empties; 8],
+    pub(crate) kinds: [Piece; MOST_PIECES],
+    pub(crate) cells: [Empties; MOST_PIECES],
 }
 
 impl ListedTiling {
@@ -21,7 +23,7 @@ impl ListedTiling {
     pub fn has(&self, piece: Piece, cells: &Empties) -> bool
         ensures { IsTrue result ↔ HasPiece self.now (record { piece = piece; cells = empty_cells cells.now }) }
     {
-        for index in 0..8 {
+        for index in 0..MOST_PIECES {
             if self.has_at(index, piece, cells) {
                 return true;
             }
@@ -32,7 +34,7 @@ impl ListedTiling {
     /// The piece at this index: its kind and its cells.
     #[inline(always)]
     pub fn piece_at(&self, index: usize) -> (Piece, Empties)
-        requires { index < 8 }
+        requires { index < MOST_PIECES }
         ensures { laid_at self.now index ≡ record { piece = result.0; cells = empty_cells result.1 } }
     {
         (self.kinds[index], self.cells[index])
@@ -41,7 +43,7 @@ impl ListedTiling {
     /// The cells of the piece at this index. `None` exactly if it is of another kind.
     #[inline(always)]
     pub fn cells_at(&self, index: usize, piece: Piece) -> Option<Empties>
-        requires { index < 8 }
+        requires { index < MOST_PIECES }
         ensures { MatchOption result ((laid_at self.now index).piece ≡ piece → ⊥)
             (λ cells. laid_at self.now index ≡ record { piece = piece; cells = empty_cells cells }) }
     {
@@ -54,7 +56,7 @@ impl ListedTiling {
     /// Whether the piece at this index is of this kind and has these cells.
     #[inline(always)]
     fn has_at(&self, index: usize, piece: Piece, cells: &Empties) -> bool
-        requires { index < 8 }
+        requires { index < MOST_PIECES }
         ensures { IsTrue result
             ↔ (laid_at self.now index ≡ record { piece = piece; cells = empty_cells cells.now }) }
     {

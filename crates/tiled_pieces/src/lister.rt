@@ -57,8 +57,8 @@ impl Lister {
     }
 
     /// All tilings of the cells with at most as many pieces of each kind as the supply has. The supply's entries stand
-    /// in the order of piece codes. `None` if there are more than `most` tilings, if one has more than eight pieces, or
-    /// if there is not enough memory.
+    /// in the order of piece codes. `None` if there are more than `most` tilings, if one has more than `MOST_PIECES`
+    /// pieces, or if there is not enough memory.
     pub fn tilings(
         &mut self,
         alloc: Global,

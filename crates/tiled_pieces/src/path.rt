@@ -3,20 +3,20 @@ ghost use Rattle.std.specs.Prelude.{ℕ, ◌≡◌, ◌≤◌, ◌<◌, ◌∷�
 ghost use Rattle.empty_cells.specs.Empties.{empty_cells};
 ghost use Rattle.lane_board.specs.Field.{empty_field};
 ghost use Rattle.srs.specs.declared.piece.Piece.TheVariants.{I};
-ghost use Rattle.tiled_pieces.specs.TilingLists.{laid_at, LaidPiece};
+ghost use Rattle.tiled_pieces.specs.TilingLists.{laid_at, most_pieces, LaidPiece};
 
-use crate::listed::ListedTiling;
+use crate::listed::{ListedTiling, MOST_PIECES};
 use empty_cells::Empties;
 use srs::Piece;
 
-/// The pieces that a walk has laid, at most eight.
+/// The pieces that a walk has laid, at most `MOST_PIECES`.
 #[derive(Clone, Copy)]
 pub(crate) struct Path {
     pub(crate) tiling: ListedTiling,
     /// How many there are.
     pub(crate) count: usize,
-    ghost few: { count ≤ 8 },
-    ghost none: { (index : ℕ) → count ≤ index → index < 8
+    ghost few: { count ≤ most_pieces },
+    ghost none: { (index : ℕ) → count ≤ index → index < most_pieces
         → laid_at tiling index ≡ record { piece = I; cells = empty_field } },
 }
 
@@ -30,8 +30,8 @@ impl Path {
     {
         Path {
             tiling: ListedTiling {
-                kinds: [Piece::I; 8],
-                cells: [Empties::empty(); 8],
+                kinds: [Piece::I; MOST_PIECES],
+                cells: [Empties::empty(); MOST_PIECES],
             },
             count: 0,
         }
@@ -40,15 +40,15 @@ impl Path {
     /// Whether there is no room for another piece.
     #[inline(always)]
     pub(crate) fn is_full(&self) -> bool
-        ensures { result ≡ false → self.now.count < 8 }
+        ensures { result ≡ false → self.now.count < MOST_PIECES }
     {
-        8 <= self.count
+        MOST_PIECES <= self.count
     }
 
     /// Adds a piece.
     #[inline(always)]
     pub(crate) fn push(&mut self, piece: Piece, cells: Empties)
-        requires { self.old.count < 8 }
+        requires { self.old.count < MOST_PIECES }
         ensures { path_of self.new ≡ path_of self.old ++ record { piece = piece; cells = empty_cells cells } ∷ [] }
     {
         self.tiling.kinds[self.count] = piece;

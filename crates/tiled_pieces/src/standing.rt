@@ -3,7 +3,7 @@ ghost use Rattle.std.specs.Prelude.{◌≡◌, ◌<◌};
 ghost use Rattle.std.specs.List.{Contains};
 
 use crate::list::TilingList;
-use crate::listed::ListedTiling;
+use crate::listed::{ListedTiling, MOST_PIECES};
 use empty_cells::Empties;
 use pc_outside::NoMemory;
 use srs::Piece;
@@ -71,7 +71,7 @@ impl StandingPieces {
             (λ cells. HasPiece tiling.now (record { piece = self.old.piece; cells = cells }))) }
         ensures kind { self.new.piece ≡ self.old.piece }
     {
-        for index in 0..8 {
+        for index in 0..MOST_PIECES {
             if let Some(cells) = tiling.cells_at(index, self.piece) {
                 self.add_piece(start, cells, number)?;
             }

@@ -13,12 +13,16 @@ ghost use Rattle.tiled_pieces.specs.Words.{field_of};
 
 use crate::laid::Laid;
 use crate::left::Left;
+use crate::listed::MOST_PIECES;
 use crate::words::without;
+
+/// How many sets of so many pieces there are.
+const SETS: usize = 1 << MOST_PIECES;
 
 /// Whether a set has an index.
 #[inline(always)]
 fn has(set: usize, index: usize) -> bool
-    requires { index < 8 }
+    requires { index < MOST_PIECES }
     ensures { result ≡ has_bit set index }
 {
     set >> index & 1 == 1
@@ -27,7 +31,7 @@ fn has(set: usize, index: usize) -> bool
 /// What the pieces of a set leave, and the sum of their weights.
 #[inline(always)]
 fn after(pieces: &[Laid], cells: u128, set: usize) -> (u128, usize)
-    requires few { length pieces.now ≤ 8 }
+    requires few { length pieces.now ≤ MOST_PIECES }
     requires small { cells < 2 ^ 80 }
     ensures small { result.0 < 2 ^ 80 }
     ensures left { field_of result.0 ≡ left_after pieces.now (field_of cells) set (length pieces.now) }
@@ -70,7 +74,7 @@ fn carried(
     allowed: &[u64],
 ) -> u64
     requires index { index < length pieces.now }
-    requires few { length pieces.now ≤ 8 }
+    requires few { length pieces.now ≤ MOST_PIECES }
     requires number { number < 2 ^ 20 }
     ensures { (bit : ℕ) → has_bit result bit ≡ true ↔ IsCarried pieces.now left.now.drops allowed.now hands set
         (field_of left.now.cells) number index bit }
@@ -92,15 +96,15 @@ fn carried(
 /// Carries the hands of a set on to the sets with one piece more.
 #[inline(always)]
 fn carry(
-    table: &mut [u64; 256],
+    table: &mut [u64; SETS],
     set: usize,
     number: usize,
     left: &Left,
     pieces: &[Laid],
     allowed: &[u64],
 )
-    requires few { length pieces.now ≤ 8 }
-    requires set { set < 256 }
+    requires few { length pieces.now ≤ MOST_PIECES }
+    requires set { set < SETS }
     requires number { number < 2 ^ 20 }
     ensures { Carries pieces.now left.now.drops allowed.now (slice_index table.old set) set (field_of left.now.cells)
         number table.old table.new (length pieces.now) }
@@ -115,15 +119,15 @@ fn carry(
 /// The hands of a set that are found, since its pieces use up the cells. Else they are carried on.
 #[inline(always)]
 fn visit(
-    table: &mut [u64; 256],
+    table: &mut [u64; SETS],
     set: usize,
     pieces: &[Laid],
     cells: u128,
     drops: bool,
     allowed: &[u64],
 ) -> u64
-    requires few { length pieces.now ≤ 8 }
-    requires set { set < 256 }
+    requires few { length pieces.now ≤ MOST_PIECES }
+    requires set { set < SETS }
     requires small { cells < 2 ^ 80 }
     ensures { Visits pieces.now drops allowed.now (field_of cells) set table.old table.new result }
 {
@@ -141,8 +145,8 @@ fn visit(
 
 /// A set up to which no hand waits: the one itself, or the eighth after it. Eight of them are looked at together.
 #[inline(always)]
-fn waiting_from(table: &[u64; 256], set: usize) -> usize
-    requires { set < 256 }
+fn waiting_from(table: &[u64; SETS], set: usize) -> usize
+    requires { set < SETS }
     ensures from { set ≤ result }
     ensures near { result ≤ set + 8 }
     ensures none { (k : ℕ) → set ≤ k → k < result → slice_index table.now k ≡ 0 }
@@ -166,12 +170,12 @@ pub(crate) fn served(
     allowed: &[u64],
     pending: u64,
 ) -> u64
-    requires few { length pieces.now ≤ 8 }
+    requires few { length pieces.now ≤ MOST_PIECES }
     requires small { cells < 2 ^ 80 }
     ensures { (bit : ℕ) → has_bit result bit ≡ true
         ↔ ((has_bit pending bit ≡ true) × HasOrder pieces.now drops allowed.now bit (field_of cells)) }
 {
-    let mut table = [0; 256];
+    let mut table = [0; SETS];
     table[0] = pending;
     let mut found = 0;
     let sets = 1 << pieces.len();

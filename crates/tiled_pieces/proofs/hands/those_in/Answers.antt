@@ -5,7 +5,7 @@ use Rattle.std.proofs.lemmas.List.{length-set, take_more_set}
 use Rattle.empty_cells.specs.Empties.{empty_cells}
 use Rattle.lane_board.specs.Field.{Field}
 use Rattle.srs.specs.Piece.{piece_code}
-use Rattle.tiled_pieces.specs.TilingLists.{LaidPiece, laid_at}
+use Rattle.tiled_pieces.specs.TilingLists.{LaidPiece, laid_at, most_pieces}
 use Rattle.tiled_pieces.specs.Orders.{HasThose, LiesIn}
 use Rattle.tiled_pieces.specs.Words.{field_of}
 use Rattle.tiled_pieces.proofs.PieceLemmas.{field_is, those_added, those_passed, those_start}
@@ -48,5 +48,5 @@ returns-clause-few c = omega (arith, c.loop-index.invariant.0, c.loop-index.auto
 
 pub returns-clause-those : goal.returns-clause-those
 returns-clause-those c =
-    subst (HasThose c.args.tiling.now (field_of c.args.cells) c.args.weights.now (take c.loop-index.count c.loop-index.pieces)) {x = c.loop-index.index} {y = 8}
+    subst (HasThose c.args.tiling.now (field_of c.args.cells) c.args.weights.now (take c.loop-index.count c.loop-index.pieces)) {x = c.loop-index.index} {y = most_pieces}
     (omega (arith, c.loop-index.auto.index-end, c.loop-index-test.false)) c.loop-index.invariant.2

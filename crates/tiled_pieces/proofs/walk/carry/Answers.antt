@@ -8,11 +8,11 @@ use Rattle.tiled_pieces.proofs.SetLemmas.{joined_below}
 use Rattle.tiled_pieces.proofs.WalkLemmas.{carries_more, carries_none}
 use Rattle.tiled_pieces.proofs.walk.carry.Goals as goal
 
-joined : (set i : ℕ) → i < 8 → bit_or set (1 * 2 ^ i % 2 ^ 64) ≡ bit_or set (2 ^ i)
+joined : (set i : ℕ) → i < 9 → bit_or set (1 * 2 ^ i % 2 ^ 64) ≡ bit_or set (2 ^ i)
 joined set i low = ap (bit_or set) (one_shl i 64 (omega (arith, low)))
 
-within : (set i : ℕ) → set < 256 → i < 8 → bit_or set (1 * 2 ^ i % 2 ^ 64) < 256
-within set i small low = subst (λ n. n < 256) (sym (joined set i low)) (joined_below set i 8 small low)
+within : (set i : ℕ) → set < 512 → i < 9 → bit_or set (1 * 2 ^ i % 2 ^ 64) < 512
+within set i small low = subst (λ n. n < 512) (sym (joined set i low)) (joined_below set i 9 small low)
 
 pub loop-index-init : goal.loop-index-init
 loop-index-init c = (c.told-table, carries_none c.args.pieces.now c.args.left.now.drops c.args.allowed.now _ c.args.set (field_of c.args.left.now.cells) c.args.number c.args.table.now 0 (λ i bit below carried. omega (arith, below)))
@@ -28,7 +28,7 @@ bounds-table-set-in-loop-index-2 c = within c.args.set c.loop-index.index c.requ
 
 pub loop-index-preserved : goal.loop-index-preserved
 loop-index-preserved c =
-    let low : c.loop-index.index < 8 = omega (arith, c.requires.few, c.loop-index-test.true) in
+    let low : c.loop-index.index < 9 = omega (arith, c.requires.few, c.loop-index-test.true) in
     let here : bit_or c.args.set (1 * 2 ^ c.loop-index.index % 2 ^ 64) < length c.loop-index.table =
     omega (arith, c.loop-index.invariant.0, within c.args.set c.loop-index.index c.requires.set low) in (
       length-set c.loop-index.table _ _ ∙ c.loop-index.invariant.0,

@@ -1,9 +1,20 @@
 -- One more set, or eight at which no hand waits.
-use Rattle.std.proofs.Common.{◌≡◌, ◌*◌, ◌%◌, ◌^◌, ◌<◌, ◌≤◌, length, subst, arith}
+use Rattle.std.proofs.Common.{◌≡◌, ℕ, ◌*◌, ◌%◌, ◌^◌, ◌<◌, ◌≤◌, length, subst, arith}
+use Rattle.std.proofs.Math.Pow.{pow_mono}
 use Rattle.std.proofs.lemmas.Nat.{one_shl}
 use Rattle.tiled_pieces.specs.Words.{field_of}
 use Rattle.tiled_pieces.proofs.WalkSteps.{walk_end, walk_on, walk_past, walk_start}
 use Rattle.tiled_pieces.proofs.walk.served.Goals as goal
+
+-- each set of at most nine pieces is one of the table
+set_known : (count set : ℕ) → count ≤ 9 → set < 1 * 2 ^ count % 2 ^ 64 → set < 512
+set_known count set few below = omega (arith, below, one_shl count 64 (omega (arith, few)), pow_mono few)
+
+pub waiting_from-next-requires : goal.waiting_from-next-requires
+waiting_from-next-requires c = set_known (length c.args.pieces.now) c.loop-set.set c.requires.few c.loop-set-test.true
+
+pub visit-found-requires-clause-set : goal.visit-found-requires-clause-set
+visit-found-requires-clause-set c = set_known (length c.args.pieces.now) c.loop-set.set c.requires.few c.loop-set-test.true
 
 pub loop-set-init : goal.loop-set-init
 loop-set-init c = walk_start c.args.pieces.now c.args.drops c.args.allowed.now c.args.pending (field_of c.args.cells)
