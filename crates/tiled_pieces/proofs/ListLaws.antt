@@ -1,4 +1,4 @@
--- What a list of all tilings says of one piece: it is in some of them where the others fill the rest, and those that have it are all tilings of the rest.
+-- What a list of all tilings says of one piece: it is in some of them where the others fill the rest.
 use Rattle.srs.specs.Cells.{Cell}
 use Rattle.std.proofs.Common.{◌≡◌, ◌<◌, true, List, ◌∷◌, pos, sym, subst, cond}
 use Rattle.std.proofs.Math.Path.{fun_ext}

@@ -1,7 +1,7 @@
 -- Orders of rows as numbers: what one more row or piece brings.
 use Rattle.std.proofs.Common.{Option, Some, None, ◌≡◌, ◌⊎◌, ℕ, ◌+◌, ◌-◌, ◌*◌, ◌/◌, ◌%◌, ◌^◌, ◌<◌, Bool, true, false, not, ◌&&◌, ◌||◌, ◌==◌, nat_lt, bit_and, bit_or, List, ◌∷◌, sym, ap, subst, ◌∙◌, inl, inr, arith, rules}
 use Rattle.std.specs.Prelude.{All, MatchOption}
-use Rattle.std.proofs.lemmas.Bool.{and_parts, both_ways, cases_eq, cases_lt, eq-eqb}
+use Rattle.std.proofs.lemmas.Bool.{and_parts, both_ways, cases_eq, cases_lt, eq-eqb, or_cases}
 use Rattle.std.proofs.lemmas.Nat.{and_le_l, shl_whole}
 use Rattle.std.proofs.Math.Bool.{and-true}
 use Rattle.std.proofs.lemmas.List.Elements.{All-head, All-tail}
@@ -33,10 +33,6 @@ not_none n some none = both_ways _ (ap not (eq-eqb n 0 none)) some
 pub kept_there : (b : Bool) → not b ≡ false → b ≡ true
 kept_there b e = search rules
 
-either : (a b : Bool) → (a || b) ≡ true → (a ≡ true) ⊎ (b ≡ true)
-either true b e = inl e
-either false b e = inr e
-
 -- the rows that go after some, as far as they have been gone through
 pub record LaterSoFar (before rows rest later : ℕ) : Type 0 where
   pub left : (k : ℕ) → k < 8 → has_bit rest k ≡ true → has_bit rows k ≡ true
@@ -50,7 +46,7 @@ pub later_next : (before rows rest less later after row : ℕ) → row < 8 → h
 later_next before rows rest less later after row low here others are so_far = record {
   left = λ k near bit. so_far.left k near (and_parts (has_bit rest k) _ (sym (others k near) ∙ bit)).0;
   goes = λ turn z agrees goes. record {
-    each = λ r near bit. elim (either (has_bit later r) (has_bit after r) (sym (has_bit-or later after r) ∙ bit)) [
+    each = λ r near bit. elim (or_cases (has_bit later r) (has_bit after r) (sym (has_bit-or later after r) ∙ bit)) [
       | inl old ↦ (so_far.goes turn z agrees goes).each r near old
       | inr new ↦ omega (arith, goes.each row low (so_far.left row low here), agrees.each row r low near (sym (are r near) ∙ new))
     ];
@@ -92,7 +88,7 @@ byte_at later row z r small low near bit = elim (cases_lt (8 * z + r) (8 * row))
 
 pub agrees_more : (turn : ℕ → ℕ) (before later row : ℕ) → later < 256 → Agrees turn before → GoesBefore turn row later → Agrees turn (bit_or before (later * 2 ^ (8 * row)))
 agrees_more turn before later row small agrees goes = record {
-  each = λ z r low near bit. elim (either (has_bit before (8 * z + r)) _ (sym (has_bit-or before (later * 2 ^ (8 * row)) (8 * z + r)) ∙ bit)) [
+  each = λ z r low near bit. elim (or_cases (has_bit before (8 * z + r)) _ (sym (has_bit-or before (later * 2 ^ (8 * row)) (8 * z + r)) ∙ bit)) [
     | inl old ↦ agrees.each z r low near old
     | inr new ↦
         let at = byte_at later row z r small low near new in

@@ -2,7 +2,7 @@
 use Rattle.std.proofs.Common.{◌≡◌, ◌↔◌, ◌⊎◌, ℕ, ◌+◌, ◌-◌, ◌*◌, ◌%◌, ◌^◌, ◌<◌, ◌≤◌, Bool, true, false, ◌||◌, bit_or, List, [], ◌∷◌, ◌++◌, length, get_or, take, refl, sym, ap, subst, ◌∙◌, inl, inr, arith, rules}
 use Rattle.std.specs.List.{Contains}
 use Rattle.std.proofs.Math.Bool.{or-true, true-or}
-use Rattle.std.proofs.lemmas.Bool.{cases_eq, cases_lt, false≢true}
+use Rattle.std.proofs.lemmas.Bool.{cases_eq, cases_lt, false≢true, or_cases}
 use Rattle.std.proofs.lemmas.List.{take_all, take_more}
 use Rattle.std.proofs.lemmas.List.Elements.{Contains-append_left, Contains-push, Contains-push_cases}
 use Rattle.srs.specs.declared.piece.Piece.{Piece}
@@ -57,9 +57,6 @@ one_bit a k small = (
   λ same. has_bit-low (1 * 2 ^ a) 64 k small ∙ has_bit-shifted_high 1 a k (omega arith) ∙ ap (has_bit 1) {x = k - a} {y = 0} (omega arith) ∙ refl,
 )
 
-either_set : (a b : Bool) → (a || b) ≡ true → (a ≡ true) ⊎ (b ≡ true)
-either_set a b set = search rules
-
 -- one piece more
 pub lists_more : (pieces : List StandingPiece) (cells : Field) (lists index : ℕ) (piece : StandingPiece) (same : Bool) → index < length pieces → piece ≡ get_or pieces index piece → ((same ≡ true) ↔ (empty_cells piece.cells ≡ cells)) → same ≡ true →
     AreLists pieces cells lists index → AreLists pieces cells (bit_or lists (1 * 2 ^ piece.list % 2 ^ 64)) (index + 1)
@@ -68,7 +65,7 @@ lists_more pieces cells lists index piece same below at both equal before = reco
       let one = one_bit piece.list number small in
       let added = stands_pushed (take index pieces) piece cells number in
       let longer = taken_more pieces index piece below at in (
-        λ set. subst (λ ps. Stands ps cells number) (sym longer) (added.1 (elim (either_set (has_bit lists number) (has_bit (1 * 2 ^ piece.list % 2 ^ 64) number) (sym (has_bit-or lists (1 * 2 ^ piece.list % 2 ^ 64) number) ∙ set)) [
+        λ set. subst (λ ps. Stands ps cells number) (sym longer) (added.1 (elim (or_cases (has_bit lists number) (has_bit (1 * 2 ^ piece.list % 2 ^ 64) number) (sym (has_bit-or lists (1 * 2 ^ piece.list % 2 ^ 64) number) ∙ set)) [
           | inl earlier ↦ inl ((before.both number small).0 earlier)
           | inr own ↦ inr (one.0 own, both.0 equal)
         ])),
