@@ -29,6 +29,11 @@ fn tilings_of_small_boxes(rt: HostRuntime) {
     let high = Empties::below(&high, 4);
     assert!(rt; count(rt.alloc(), &high, &[2, 0, 0, 0, 0, 0, 0], 9) == Some(1));
     assert!(rt; count(rt.alloc(), &high, &[0, 0, 2, 0, 0, 0, 0], 9) == Some(3));
+    // Nine pieces can be listed, and ten cannot.
+    let nine = Empties::below(&field(b"X_________/X_________/X_________/X_________"), 4);
+    assert!(rt; count(rt.alloc(), &nine, &[9, 0, 0, 0, 0, 0, 0], 99) == Some(10));
+    let ten = Empties::below(&Well::empty(), 4);
+    assert!(rt; count(rt.alloc(), &ten, &[10, 0, 0, 0, 0, 0, 0], 99) == None);
     // Two pieces that each have a row of the other between theirs cannot be put one after the other.
     let ordered = Lister::new(rt.alloc()).ordered_tilings(
         rt.alloc(),

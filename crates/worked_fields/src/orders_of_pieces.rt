@@ -57,3 +57,17 @@ fn a_piece_below_a_filled_cell_does_not_drop(rt: HostRuntime) {
     let dropped = served(rt.alloc(), rows, &supply, true, &weights, &allowed, 1);
     assert!(rt; dropped == Some(0));
 }
+
+#[test]
+fn nine_pieces_are_put_in_some_order(rt: HostRuntime) {
+    let nine = Well::from_rows(b"X_________/X_________/X_________/X_________");
+    let cells = Empties::below(&nine.unwrap_or(Well::empty()), 4);
+    let list = Lister::new(rt.alloc()).tilings(rt.alloc(), &cells, &[9, 0, 0, 0, 0, 0, 0], 99);
+    let list = list.expect(&rt, "few tilings");
+    let weights = [0, 1, 0, 0, 0, 0, 0, 0];
+    let allowed = [0, 3, 3, 3, 3, 3, 3, 3, 3, 1];
+    for tiling in &list.tilings {
+        assert!(rt; served_hands(tiling, &cells, true, &weights, &allowed, 3) == 1);
+        assert!(rt; served_hands(tiling, &cells, false, &weights, &allowed, 2) == 0);
+    }
+}
