@@ -5,6 +5,7 @@ use pc_outside::{Failed, MemorySink, MemorySource, NoMemory, Sink};
 use run_outcomes::{counted, words_of};
 use std::alloc::Global;
 use std::marker::Brand;
+use std::process::Abort;
 use std::sync::ledger::Blank;
 
 /// A sink whose writes fail after the first `left` ones. It counts a fault in each write of a byte, like a sink that
@@ -68,7 +69,7 @@ fn worn_run(
 
 /// Whether the run, whichever write fails first, ends with status 4 and calls the sink no more, and with status 0 if
 /// none fails.
-fn each_write_is_the_last(alloc: Global, line: &str, text: &[u8]) -> Result<bool, NoMemory> {
+fn is_left_alone(alloc: Global, line: &str, text: &[u8]) -> Result<bool, NoMemory> {
     let words = words_of(alloc, line, &[])?;
     for left in 0..5_000 {
         match worn_run(alloc, &words, text, left)? {
@@ -80,8 +81,14 @@ fn each_write_is_the_last(alloc: Global, line: &str, text: &[u8]) -> Result<bool
     Ok(false)
 }
 
-/// Lines, and the sources of their runs.
-const RUNS: &[(&str, &[u8])] = &[
+/// Asserts that each of these lines, run over its source, leaves a sink that has failed alone.
+fn each_write_is_the_last(rt: &(impl AllocGlobal + Abort), runs: &[(&str, &[u8])]) {
+    for (line, text) in runs {
+        assert!(rt; is_left_alone(rt.alloc(), line, text) == Ok(true), "{line}");
+    }
+}
+
+const RUNS_ON_A_FIELD: &[(&str, &[u8])] = &[
     (
         "path --rows XXXXXX____ --clear-line 1 --patterns I --keys yes --stats yes",
         b"",
@@ -102,6 +109,14 @@ const RUNS: &[(&str, &[u8])] = &[
         "combo --rows XXXXXX____/XXXXXX____ --patterns II --keys yes",
         b"",
     ),
+];
+
+#[test]
+fn each_write_of_a_field(rt: HostRuntime) {
+    each_write_is_the_last(&rt, RUNS_ON_A_FIELD);
+}
+
+const OTHER_RUNS: &[(&str, &[u8])] = &[
     (
         "cover --rows XXXXXX____ --clear-line 1 --patterns *p2",
         b"I0:7,0\n",
@@ -114,11 +129,6 @@ const RUNS: &[(&str, &[u8])] = &[
 ];
 
 #[test]
-fn each_write_that_fails_is_the_last(rt: HostRuntime) {
-    for (line, text) in RUNS {
-        assert!(rt;
-            each_write_is_the_last(rt.alloc(), line, text) == Ok(true),
-            "{line}"
-        );
-    }
+fn each_write_of_the_others(rt: HostRuntime) {
+    each_write_is_the_last(&rt, OTHER_RUNS);
 }
