@@ -3,6 +3,12 @@ use crate::{Outcome, run_words};
 use pc_outside::MemorySource;
 use std::test::Fail;
 
+/// A line, further words, and what their run writes.
+pub type Case<'a> = (&'a str, &'a [&'a str], &'a [u8]);
+
+/// A line, a source, and what their run writes.
+pub type TextCase<'a> = (&'a str, &'a [u8], &'a [u8]);
+
 /// Runs the words of a line, and then these further words, over a source of these bytes.
 pub fn over(
     rt: &impl AllocGlobal,
@@ -20,27 +26,60 @@ pub fn over(
     }
 }
 
-fn ends(ended: &Outcome, code: u8, output: &[u8], fault: &[u8]) -> Result<(), Fail> {
+/// Asserts that something is so.
+pub fn is_so(so: bool, what: &str) -> Result<(), Fail> {
+    if so { Ok(()) } else { Err(Fail::new(what)) }
+}
+
+/// What a run ended with in the place of this status, this output and this line of a fault.
+fn difference(ended: &Outcome, code: u8, output: &[u8], fault: &[u8]) -> Option<&'static str> {
     if ended.status.code() != code {
-        return Err(Fail::new("another status"));
+        Some("another status")
+    } else if ended.out.bytes() != output {
+        Some("another output")
+    } else if ended.err.bytes() != fault {
+        Some("another line of a fault")
+    } else {
+        None
     }
-    if ended.out.bytes() != output {
-        return Err(Fail::new("another output"));
+}
+
+/// Asserts how a run over this text ends. A failure names its words.
+pub fn ends(
+    rt: &impl AllocGlobal,
+    (line, more, text): (&str, &[&str], &[u8]),
+    (code, output, fault): (u8, &[u8], &[u8]),
+) -> Result<(), Fail> {
+    match difference(&over(rt, line, more, text)?, code, output, fault) {
+        None => Ok(()),
+        Some(what) => Err(Fail::new(format_args!("{line} {more:?}: {what}"))),
     }
-    if ended.err.bytes() != fault {
-        return Err(Fail::new("another line of a fault"));
-    }
-    Ok(())
 }
 
 /// Asserts that a run over this text ends with this output and no fault.
 pub fn writes(rt: &impl AllocGlobal, line: &str, text: &[u8], output: &[u8]) -> Result<(), Fail> {
-    ends(&over(rt, line, &[], text)?, 0, output, b"")
+    ends(rt, (line, &[], text), (0, output, b""))
+}
+
+/// Asserts that each run over its text ends with its output and no fault.
+pub fn writes_all(rt: &impl AllocGlobal, cases: &[TextCase]) -> Result<(), Fail> {
+    for (line, text, output) in cases {
+        writes(rt, line, text, output)?;
+    }
+    Ok(())
 }
 
 /// Asserts that a run of these words ends with this output and no fault.
 pub fn lists(rt: &impl AllocGlobal, line: &str, more: &[&str], output: &[u8]) -> Result<(), Fail> {
-    ends(&over(rt, line, more, b"")?, 0, output, b"")
+    ends(rt, (line, more, b""), (0, output, b""))
+}
+
+/// Asserts that each run ends with its output and no fault.
+pub fn lists_all(rt: &impl AllocGlobal, cases: &[Case]) -> Result<(), Fail> {
+    for (line, more, output) in cases {
+        lists(rt, line, more, output)?;
+    }
+    Ok(())
 }
 
 /// Asserts that a run over this text writes only this line of a fault.
@@ -51,5 +90,39 @@ pub fn refused(
     text: &[u8],
     fault: &[u8],
 ) -> Result<(), Fail> {
-    ends(&over(rt, line, more, text)?, 2, b"", fault)
+    ends(rt, (line, more, text), (2, b"", fault))
+}
+
+/// Asserts that each run writes only its line of a fault.
+pub fn refuses_all(rt: &impl AllocGlobal, cases: &[Case]) -> Result<(), Fail> {
+    for (line, more, fault) in cases {
+        refused(rt, line, more, b"", fault)?;
+    }
+    Ok(())
+}
+
+/// Asserts that each run over its text writes only its line of a fault.
+pub fn refuses_all_texts(rt: &impl AllocGlobal, cases: &[TextCase]) -> Result<(), Fail> {
+    for (line, text, fault) in cases {
+        refused(rt, line, &[], text, fault)?;
+    }
+    Ok(())
+}
+
+/// Asserts that a run of these words ends with status 0, and its output with these bytes.
+pub fn ends_with(
+    rt: &impl AllocGlobal,
+    line: &str,
+    more: &[&str],
+    text: &[u8],
+    tail: &[u8],
+) -> Result<(), Fail> {
+    let ended = over(rt, line, more, text)?;
+    let so = ended.status.code() == 0 && ended.out.bytes().ends_with(tail);
+    is_so(so, line)
+}
+
+/// How many newlines an output has.
+pub fn newlines(output: &[u8]) -> usize {
+    output.iter().filter(|byte| **byte == b'\n').count()
 }

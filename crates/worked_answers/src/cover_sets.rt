@@ -2,28 +2,15 @@
 ghost use Rattle.std.specs.Prelude.{◌≡◌, ◌<◌};
 ghost use Rattle.problem.specs.Problem.{IsFit};
 
+use crate::questions::{Question, is_so, problem};
 use cover::CoverSet;
 use hold_queue::Hold;
-use moves::DropMode;
-use pc_outside::NoMemory;
 use problem::{Problem, Sequence};
-use queue_pattern::Pattern;
 use reach::Steps;
-use srs::{Piece, Placement, Rotation, Rules};
+use srs::{Piece, Placement, Rotation};
 use std::alloc::Global;
 use std::marker::Brand;
-use std::process::Abort;
 use std::sync::ledger::{Blank, Ledger};
-use well::Well;
-
-fn problem(rt: &impl Abort, pattern: &str, hold: Hold) -> Problem
-    ensures { IsFit result }
-{
-    let well = Well::from_rows(b"XXXXXX____").expect(rt, "a rows text");
-    let pattern = Pattern::parse(pattern).expect(rt, "a pattern");
-    let (drop_mode, rules) = (DropMode::Soft, Rules::srs());
-    Problem::new(well, 1, pattern, hold, None, drop_mode, rules).expect(rt, "a fit problem")
-}
 
 fn flat(piece: Piece) -> Sequence {
     let mut sequence = Sequence::new();
@@ -36,54 +23,57 @@ fn flat(piece: Piece) -> Sequence {
     sequence
 }
 
-/// How many queues a sequence covers, and the first of them.
+/// How many queues a sequence covers, and the first of them. `None` if it had no memory.
 fn answered<L: Ledger>(
     alloc: Global,
     blank: Blank,
     problem: Problem,
     sequence: &Sequence,
-) -> Result<(u32, Option<u32>), NoMemory>
+) -> Option<(u32, Option<u32>)>
     requires name { blank.name ≡ L.name }
     requires parts { blank.parts ≡ L.parts }
     requires some { 0 < blank.parts }
     requires fit { IsFit problem }
 {
     let mut steps = Steps::<L>::new(blank);
-    let mut set = CoverSet::start(alloc, problem)?;
-    set.add(sequence, &mut steps)?;
-    set.add(sequence, &mut steps)?;
+    let Ok(mut set) = CoverSet::start(alloc, problem) else {
+        return None;
+    };
+    if set.add(sequence, &mut steps).is_err() || set.add(sequence, &mut steps).is_err() {
+        return None;
+    }
     let mut count = 0;
     for number in 0..problem.pattern.count() {
         if set.next_covered(number) == Some(number) {
             count += 1;
         }
     }
-    Ok((count, set.next_covered(0)))
+    Some((count, set.next_covered(0)))
 }
 
-#[test]
-fn a_flat_piece_is_played_first_or_second(rt: HostRuntime) {
-    let either = problem(&rt, "*p2", Hold::Allowed);
-    assert_eq!(rt;
-        answered::<Brand>(rt.alloc(), Blank::new(1), either, &flat(Piece::I)),
-        Ok((12, Some(0)))
-    );
-}
+const WITH_HOLD: Question = (b"XXXXXX____", 1, "*p2", Hold::Allowed);
+
+const WITHOUT: Question = (b"XXXXXX____", 1, "*p2", Hold::Avoided);
+
+/// Questions, the flat piece of a sequence, how many queues it covers, and the first of them.
+const COVERED: &[(Question, Piece, u32, Option<u32>)] = &[
+    // It is played first or second.
+    (WITH_HOLD, Piece::I, 12, Some(0)),
+    // It is played first.
+    (WITHOUT, Piece::I, 6, Some(0)),
+    // It leaves cells.
+    (WITH_HOLD, Piece::T, 0, None),
+];
 
 #[test]
-fn where_hold_is_avoided_it_is_played_first(rt: HostRuntime) {
-    let first = problem(&rt, "*p2", Hold::Avoided);
-    assert_eq!(rt;
-        answered::<Brand>(rt.alloc(), Blank::new(1), first, &flat(Piece::I)),
-        Ok((6, Some(0)))
-    );
-}
-
-#[test]
-fn a_sequence_that_leaves_cells_answers_none(rt: HostRuntime) {
-    let either = problem(&rt, "*p2", Hold::Allowed);
-    assert_eq!(rt;
-        answered::<Brand>(rt.alloc(), Blank::new(1), either, &flat(Piece::T)),
-        Ok((0, None))
-    );
+fn queues_that_a_flat_piece_covers(rt: HostRuntime) {
+    for (question, piece, count, first) in COVERED {
+        let asked = problem(&rt, question);
+        let found = answered::<Brand>(rt.alloc(), Blank::new(1), asked, &flat(*piece));
+        is_so(
+            &rt,
+            found == Some((*count, *first)),
+            "queues of a flat piece",
+        );
+    }
 }

@@ -1,6 +1,7 @@
 // Key words in an empty well.
 ghost use Rattle.std.specs.Prelude.{◌≡◌};
 
+use crate::questions::is_so;
 use key_path::Finder;
 use moves::DropMode;
 use srs::{Piece, Placement, Rotation, Rules, is_inside};
@@ -19,16 +20,17 @@ fn t_piece(y: u8) -> Placement
     }
 }
 
+const MODES: &[DropMode] = &[DropMode::Soft, DropMode::Hard];
+
 #[test]
 fn a_floating_target_has_no_word(rt: HostRuntime) {
     let mut finder = Finder::new(rt.alloc()).expect(&rt, "memory");
-    let floating = t_piece(5);
-    let landed = t_piece(0);
+    let (floating, landed) = (t_piece(5), t_piece(0));
     assert!(rt; is_inside(&floating) && is_inside(&landed));
-    for drop_mode in [DropMode::Soft, DropMode::Hard] {
-        let none = finder.find(&Well::empty(), &Rules::srs(), &floating, drop_mode);
-        assert!(rt; none.is_none());
-        let word = finder.find(&Well::empty(), &Rules::srs(), &landed, drop_mode);
-        assert!(rt; word.expect(&rt, "a word").is_empty());
+    for drop_mode in MODES {
+        let none = finder.find(&Well::empty(), &Rules::srs(), &floating, *drop_mode);
+        let word = finder.find(&Well::empty(), &Rules::srs(), &landed, *drop_mode);
+        let is_empty = matches!(&word, Some(keys) if keys.is_empty());
+        is_so(&rt, none.is_none() && is_empty, "words of a T");
     }
 }

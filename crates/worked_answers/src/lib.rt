@@ -14,4 +14,6 @@ mod key_words;
 #[cfg(test)]
 mod longest_runs;
 #[cfg(test)]
+mod questions;
+#[cfg(test)]
 mod searches;

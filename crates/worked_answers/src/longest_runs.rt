@@ -1,6 +1,7 @@
 // Longest runs of small fields.
 ghost use Rattle.std.specs.Prelude.{◌≡◌, ◌<◌};
 
+use crate::questions::is_so;
 use combo::{Run, longest, most_between_walls};
 use hold_queue::Hold;
 use moves::DropMode;
@@ -10,11 +11,10 @@ use srs::{Piece, Placement, Rotation, Rules};
 use std::alloc::Global;
 use std::marker::Brand;
 use std::sync::ledger::{Blank, Ledger};
-use std::test::Fail;
 use well::Well;
 
 /// Fields, and the most placements that the room between their walls allows.
-const ROOMS: [(&str, Option<u8>); 8] = [
+const ROOMS: &[(&str, Option<u8>)] = &[
     ("", Some(0)),
     ("XXX_XXXXXX", Some(1)),
     ("XXX_XXXXXX/XXX_XXXXXX", Some(1)),
@@ -24,6 +24,20 @@ const ROOMS: [(&str, Option<u8>); 8] = [
     ("XX____XXXX", None),
     ("XXXXXXXXXX/XXX____XXX", None),
 ];
+
+const LAID_FLAT: Placement = Placement {
+    piece: Piece::I,
+    rotation: Rotation::Spawn,
+    x: 7,
+    y: 0,
+};
+
+const UPRIGHT: Placement = Placement {
+    piece: Piece::I,
+    rotation: Rotation::Right,
+    x: 3,
+    y: 2,
+};
 
 fn queue_of(first: Piece, second: Piece) -> Queue {
     let mut queue = Queue::new();
@@ -50,40 +64,26 @@ fn longest_of<L: Ledger>(alloc: Global, blank: Blank, well: &Well, queue: &Queue
     )
 }
 
+/// Fields, and the longest runs of two straight pieces on them.
+const STRAIGHT_RUNS: &[(&[u8], &[Placement])] = &[
+    (b"XXXXXX____/XXXXXX____", &[LAID_FLAT, LAID_FLAT]),
+    (b"XXX_XXXXXX/XXX_XXXXXX", &[UPRIGHT]),
+];
+
 #[test]
-fn a_straight_piece_clears_twice(rt: HostRuntime) -> Result<(), Fail> {
-    let rows = Well::from_rows(b"XXXXXX____/XXXXXX____");
-    assert!(rt; rows.is_ok());
-    if let Ok(well) = rows {
+fn straight_pieces_clear_rows(rt: HostRuntime) {
+    for (rows, placements) in STRAIGHT_RUNS {
+        let well = Well::from_rows(rows).expect(&rt, "a rows text");
         let queue = queue_of(Piece::I, Piece::I);
         let run = longest_of::<Brand>(rt.alloc(), Blank::new(1), &well, &queue);
-        let flat = Placement {
-            piece: Piece::I,
-            rotation: Rotation::Spawn,
-            x: 7,
-            y: 0,
-        };
-        assert_eq!(rt; run.as_slice(), [flat, flat].as_slice());
+        is_so(&rt, run.as_slice() == *placements, "a longest run");
     }
-    Ok(())
 }
 
 #[test]
 fn the_room_between_walls_is_counted(rt: HostRuntime) {
     for (text, most) in ROOMS {
         let well = Well::from_rows(text.as_bytes()).expect(&rt, "a rows text");
-        assert_eq!(rt; most_between_walls(&well), most, "{text}");
+        is_so(&rt, most_between_walls(&well) == *most, text);
     }
-}
-
-#[test]
-fn a_straight_piece_takes_all_room(rt: HostRuntime) -> Result<(), Fail> {
-    let rows = Well::from_rows(b"XXX_XXXXXX/XXX_XXXXXX");
-    assert!(rt; rows.is_ok());
-    if let Ok(well) = rows {
-        let queue = queue_of(Piece::I, Piece::I);
-        let run = longest_of::<Brand>(rt.alloc(), Blank::new(1), &well, &queue);
-        assert_eq!(rt; run.as_slice().len(), 1);
-    }
-    Ok(())
 }

@@ -2,26 +2,13 @@
 ghost use Rattle.std.specs.Prelude.{◌≡◌, ◌<◌};
 ghost use Rattle.problem.specs.Problem.{IsFit};
 
+use crate::questions::{Question, is_so, problem};
 use enumerate::{Problem, Search, Sequence, needed};
 use hold_queue::Hold;
-use moves::DropMode;
-use queue_pattern::Pattern;
 use reach::Steps;
-use srs::Rules;
 use std::alloc::Global;
 use std::marker::Brand;
-use std::process::Abort;
 use std::sync::ledger::{Blank, Ledger};
-use well::Well;
-
-fn problem(rt: &impl Abort, rows: &[u8], height: u8, pattern: &str, hold: Hold) -> Problem
-    ensures { IsFit result }
-{
-    let well = Well::from_rows(rows).expect(rt, "a rows text");
-    let pattern = Pattern::parse(pattern).expect(rt, "a pattern");
-    let (drop_mode, rules) = (DropMode::Soft, Rules::srs());
-    Problem::new(well, height, pattern, hold, None, drop_mode, rules).expect(rt, "a fit problem")
-}
 
 /// Whether the first answer of a search is a solution, how many floods it took, and how many dead boards the search
 /// keeps then. `None` if it had no memory.
@@ -105,26 +92,26 @@ fn count_resumed<L: Ledger>(alloc: Global, blank: Blank, problem: Problem, most:
     None
 }
 
+const TWO_SQUARES: &Question = &(b"XXXXXXXX__/XXXXXX____/XXXXXXXX__", 3, "OO", Hold::Allowed);
+
 #[test]
 fn a_field_without_a_tiling_is_kept_as_dead(rt: HostRuntime) {
-    let rows = b"XXXXXXXX__/XXXXXX____/XXXXXXXX__";
-    let two_squares = problem(&rt, rows, 3, "OO", Hold::Allowed);
-    assert_eq!(rt;
-        first_answer::<Brand>(rt.alloc(), Blank::new(1), two_squares),
-        Some((false, 0, 1))
-    );
+    let two_squares = problem(&rt, TWO_SQUARES);
+    let found = first_answer::<Brand>(rt.alloc(), Blank::new(1), two_squares);
+    is_so(&rt, found == Some((false, 0, 1)), "a dead board");
 }
+
+/// Questions, and how many solutions they have.
+const RESUMED: &[(Question, u32)] = &[
+    ((b"__________", 4, "ILJOSZTILJ", Hold::Avoided), 319),
+    ((b"XXXXXX____/XXXXXX____", 2, "OO", Hold::Allowed), 2),
+];
 
 #[test]
 fn a_search_is_resumed_after_each_solution(rt: HostRuntime) {
-    let empty = problem(&rt, b"__________", 4, "ILJOSZTILJ", Hold::Avoided);
-    assert_eq!(rt;
-        count_resumed::<Brand>(rt.alloc(), Blank::new(1), empty, 400),
-        Some(319)
-    );
-    let two = problem(&rt, b"XXXXXX____/XXXXXX____", 2, "OO", Hold::Allowed);
-    assert_eq!(rt;
-        count_resumed::<Brand>(rt.alloc(), Blank::new(1), two, 400),
-        Some(2)
-    );
+    for (question, solutions) in RESUMED {
+        let asked = problem(&rt, question);
+        let found = count_resumed::<Brand>(rt.alloc(), Blank::new(1), asked, 400);
+        is_so(&rt, found == Some(*solutions), question.2);
+    }
 }

@@ -1,10 +1,13 @@
 // Runs of `combo`: the longest run of placements that each remove a row.
-use run_outcomes::asserts::{lists, refused, writes};
+use run_outcomes::asserts::{Case, TextCase, lists_all, refuses_all, writes_all};
 use std::test::Fail;
 
 const ONE_ROW: &str = "combo --rows XXXXXX____ --patterns";
 
 const TWO_ROWS: &str = "combo --rows XXXXXX____/XXXXXX____ --patterns";
+
+const COLUMN: &str =
+    "combo --rows XXXXXXXXX_/XXXXXXXXX_/XXXXXXXXX_/XXXXXXXXX_/XXXXXXXXX_ --patterns";
 
 /// Twenty rows with four open columns, in which three cells are filled.
 const FOUR_COLUMNS: &str =
@@ -14,148 +17,141 @@ const FOUR_COLUMNS: &str =
 const ALL_ROWS: &str =
     "combo --rows XXX____XXX/XXX____XXX/XXX____XXX/XXX____XXX/XXX____XXX/XXX____XXX/XXX____XXX/XXX____XXX/XXX____XXX/XXX____XXX/XXX____XXX/XXX____XXX/XXX____XXX/XXX____XXX/XXX____XXX/XXX____XXX/XXX____XXX/XXX____XXX/XXX____XXX/XXX____XXX/XXX____XXX/XXX____XXX/XXX____XXX --patterns";
 
+/// A row under an overhang that hard drops leave open.
+const OVERHANG: &str = "combo --rows _______X__/XXXXXXX___ --patterns L --drop";
+
+const SHORT_RUNS: &[Case] = &[
+    (TWO_ROWS, &["II"], b"I0:7,0 I0:7,0\ncombo 2\n"),
+    (ONE_ROW, &["TI"], b"I0:7,0\ncombo 1\n"),
+    (ONE_ROW, &["TI", "--hold", "avoid"], b"combo 0\n"),
+    (COLUMN, &["II"], b"IR:9,2 IR:9,2\ncombo 2\n"),
+    (OVERHANG, &["soft"], b"L0:8,0\ncombo 1\n"),
+    (OVERHANG, &["hard"], b"combo 0\n"),
+    ("combo --patterns I --rows", &[""], b"combo 0\n"),
+    ("combo --patterns I --rows __________", &[], b"combo 0\n"),
+    (ONE_ROW, &[""], b"combo 0\n"),
+    ("combo --patterns IIII --rows XXXXX_____", &[], b"combo 0\n"),
+];
+
 #[test]
 fn short_runs(rt: HostRuntime) -> Result<(), Fail> {
-    lists(&rt, TWO_ROWS, &["II"], b"I0:7,0 I0:7,0\ncombo 2\n")?;
-    lists(&rt, ONE_ROW, &["TI"], b"I0:7,0\ncombo 1\n")?;
-    lists(&rt, ONE_ROW, &["TI", "--hold", "avoid"], b"combo 0\n")?;
-    let column = "combo --rows XXXXXXXXX_/XXXXXXXXX_/XXXXXXXXX_/XXXXXXXXX_/XXXXXXXXX_ --patterns";
-    lists(&rt, column, &["II"], b"IR:9,2 IR:9,2\ncombo 2\n")
+    lists_all(&rt, SHORT_RUNS)
 }
 
-#[test]
-fn runs_with_keys(rt: HostRuntime) -> Result<(), Fail> {
-    let one: &[u8] = b"I0:7,0:RRRH\ncombo 1\n";
-    lists(&rt, ONE_ROW, &["I", "--keys", "yes"], one)?;
-    let two: &[u8] = b"I0:7,0:RRRH I0:7,0:RRRH\ncombo 2\n";
-    lists(&rt, TWO_ROWS, &["II", "--keys", "yes"], two)?;
-    lists(&rt, ONE_ROW, &["T", "--keys", "yes"], b"combo 0\n")
-}
+const UNDER_THE_EDGE: &str = "combo --rows XXXXXXXXX_/XXXXXXX___ --patterns L";
 
-#[test]
-fn no_run(rt: HostRuntime) -> Result<(), Fail> {
-    lists(&rt, "combo --patterns I --rows", &[""], b"combo 0\n")?;
-    lists(
-        &rt,
-        "combo --patterns I --rows __________",
-        &[],
-        b"combo 0\n",
-    )?;
-    lists(&rt, ONE_ROW, &[""], b"combo 0\n")?;
-    let five = "combo --patterns IIII --rows XXXXX_____";
-    lists(&rt, five, &[], b"combo 0\n")
-}
-
-#[test]
-fn a_held_piece_is_played(rt: HostRuntime) -> Result<(), Fail> {
-    lists(&rt, ONE_ROW, &["", "--held", "i"], b"I0:7,0\ncombo 1\n")?;
-    let avoided = ["", "--held", "I", "--hold", "avoid"];
-    lists(&rt, ONE_ROW, &avoided, b"combo 0\n")?;
-    lists(
-        &rt,
+const RUNS_WITH_OPTIONS: &[Case] = &[
+    (ONE_ROW, &["I", "--keys", "yes"], b"I0:7,0:RRRH\ncombo 1\n"),
+    (
         TWO_ROWS,
-        &["I", "--held", "I"],
-        b"I0:7,0 I0:7,0\ncombo 2\n",
-    )
-}
+        &["II", "--keys", "yes"],
+        b"I0:7,0:RRRH I0:7,0:RRRH\ncombo 2\n",
+    ),
+    (ONE_ROW, &["T", "--keys", "yes"], b"combo 0\n"),
+    // A held piece is played.
+    (ONE_ROW, &["", "--held", "i"], b"I0:7,0\ncombo 1\n"),
+    (
+        ONE_ROW,
+        &["", "--held", "I", "--hold", "avoid"],
+        b"combo 0\n",
+    ),
+    (TWO_ROWS, &["I", "--held", "I"], b"I0:7,0 I0:7,0\ncombo 2\n"),
+    // Another table of offsets.
+    (UNDER_THE_EDGE, &[], b"L0:8,0\ncombo 1\n"),
+    (
+        UNDER_THE_EDGE,
+        &["--kicks", "LR:0,0/0,0/0,0/0,0/0,0;LL:0,0/0,0/0,0/0,0/0,0"],
+        b"LL:9,1\ncombo 1\n",
+    ),
+];
 
 #[test]
-fn all_pieces_of_the_longest_queue(rt: HostRuntime) -> Result<(), Fail> {
-    let queue = "IIIIIIIIIIIIIIIIIIIIII";
-    lists(
-        &rt,
+fn runs_with_options(rt: HostRuntime) -> Result<(), Fail> {
+    lists_all(&rt, RUNS_WITH_OPTIONS)
+}
+
+const QUEUE: &str = "TIOSZJLLJSZOITJZSTILOZ";
+
+const LONG_RUNS: &[Case] = &[
+    (
         ALL_ROWS,
-        &[queue, "--held", "I"],
+        &["IIIIIIIIIIIIIIIIIIIIII", "--held", "I"],
         b"I0:4,0 I0:4,0 I0:4,0 I0:4,0 I0:4,0 I0:4,0 I0:4,0 I0:4,0 I0:4,0 I0:4,0 I0:4,0 I0:4,0 I0:4,0 I0:4,0 I0:4,0 I0:4,0 I0:4,0 I0:4,0 I0:4,0 I0:4,0 I0:4,0 I0:4,0 I0:4,0\ncombo 23\n",
-    )
-}
-
-#[test]
-fn four_open_columns(rt: HostRuntime) -> Result<(), Fail> {
-    let queue = "TIOSZJLLJSZOITJZSTILOZ";
-    lists(
-        &rt,
+    ),
+    (
         FOUR_COLUMNS,
-        &[queue],
+        &[QUEUE],
         b"I0:7,1 TL:9,1 O0:6,0 ZR:8,1 J0:7,1 L0:8,1 LR:6,1 J0:8,1 S0:8,0 ZR:6,1 O0:8,0 IR:6,2 T0:8,0 J2:8,1 SR:6,1 Z0:8,0 TL:9,1 I0:7,2 L0:7,1 O0:6,0\ncombo 20\n",
-    )?;
-    lists(
-        &rt,
+    ),
+    (
         FOUR_COLUMNS,
-        &[queue, "--hold", "avoid"],
+        &[QUEUE, "--hold", "avoid"],
         b"TL:9,1 I0:7,2 O0:6,0 SR:7,1\ncombo 4\n",
-    )?;
-    lists(
-        &rt,
+    ),
+    (
         FOUR_COLUMNS,
-        &[queue, "--drop", "hard"],
+        &[QUEUE, "--drop", "hard"],
         b"I0:7,1 TL:9,1 O0:6,0 ZR:8,1 J0:7,1 L0:8,1 LR:6,1 S0:8,0 SR:6,1 Z0:8,0 J2:8,1 I0:7,1 TR:6,1 J2:8,1 ZR:8,1 O0:6,0 T2:8,1 I0:7,1 L2:7,1 SR:8,1\ncombo 20\n",
-    )
-}
+    ),
+];
 
 #[test]
-fn hard_drops_clear_less(rt: HostRuntime) -> Result<(), Fail> {
-    let line = "combo --rows _______X__/XXXXXXX___ --patterns L --drop";
-    lists(&rt, line, &["soft"], b"L0:8,0\ncombo 1\n")?;
-    lists(&rt, line, &["hard"], b"combo 0\n")
+fn long_runs(rt: HostRuntime) -> Result<(), Fail> {
+    lists_all(&rt, LONG_RUNS)
 }
+
+const FIELDS_OF_SOURCES: &[TextCase] = &[
+    (
+        "combo --tetfu - --patterns I",
+        b"v115@bhF8NeAgH",
+        b"I0:7,0\ncombo 1\n",
+    ),
+    (
+        "combo --tetfu v115@bhF8NeAgH --patterns I --page 1",
+        b"",
+        b"I0:7,0\ncombo 1\n",
+    ),
+];
 
 #[test]
 fn the_field_of_a_source(rt: HostRuntime) -> Result<(), Fail> {
-    let text = b"v115@bhF8NeAgH";
-    writes(
-        &rt,
-        "combo --tetfu - --patterns I",
-        text,
-        b"I0:7,0\ncombo 1\n",
-    )?;
-    let line = "combo --tetfu v115@bhF8NeAgH --patterns I --page 1";
-    writes(&rt, line, b"", b"I0:7,0\ncombo 1\n")
+    writes_all(&rt, FIELDS_OF_SOURCES)
 }
+
+const FAULTS: &[Case] = &[
+    (ONE_ROW, &["*p2"], b"input: NotOneQueue 42\n"),
+    (ONE_ROW, &["[TI]"], b"input: NotOneQueue 2\n"),
+    (ONE_ROW, &["?"], b"input: Pattern.Unexpected 0\n"),
+    (
+        "combo --clear-line 4",
+        &[],
+        b"input: Words.UnknownOption 1\n",
+    ),
+    ("combo --limit 1", &[], b"input: Words.UnknownOption 1\n"),
+    ("combo --patterns I", &[], b"input: Words.MissingOption 3\n"),
+    (
+        "combo --rows XXXXXXXXXX --patterns *p2",
+        &[],
+        b"input: FullRow 0\n",
+    ),
+    (
+        "combo --rows X --patterns ?",
+        &[],
+        b"input: Rows.BadRowLength 1\n",
+    ),
+    (
+        "combo --tetfu v115@ --patterns *p2",
+        &[],
+        b"input: NoPage 1 0\n",
+    ),
+    (
+        ONE_ROW,
+        &["I", "--kicks", "TR:0,0"],
+        b"input: Kicks.Unexpected 6\n",
+    ),
+];
 
 #[test]
 fn faults(rt: HostRuntime) -> Result<(), Fail> {
-    let rows: [(&str, &[&str], &[u8]); 9] = [
-        (ONE_ROW, &["*p2"], b"input: NotOneQueue 42\n"),
-        (ONE_ROW, &["[TI]"], b"input: NotOneQueue 2\n"),
-        (ONE_ROW, &["?"], b"input: Pattern.Unexpected 0\n"),
-        (
-            "combo --clear-line 4",
-            &[],
-            b"input: Words.UnknownOption 1\n",
-        ),
-        ("combo --limit 1", &[], b"input: Words.UnknownOption 1\n"),
-        ("combo --patterns I", &[], b"input: Words.MissingOption 3\n"),
-        (
-            "combo --rows XXXXXXXXXX --patterns *p2",
-            &[],
-            b"input: FullRow 0\n",
-        ),
-        (
-            "combo --rows X --patterns ?",
-            &[],
-            b"input: Rows.BadRowLength 1\n",
-        ),
-        (
-            "combo --tetfu v115@ --patterns *p2",
-            &[],
-            b"input: NoPage 1 0\n",
-        ),
-    ];
-    for (line, more, fault) in rows {
-        refused(&rt, line, more, b"", fault)?;
-    }
-    Ok(())
-}
-
-#[test]
-fn another_table_of_offsets(rt: HostRuntime) -> Result<(), Fail> {
-    let zeros = "0,0/0,0/0,0/0,0/0,0";
-    let table = format!(in rt.alloc(); "LR:{zeros};LL:{zeros}")?;
-    let line = "combo --rows XXXXXXXXX_/XXXXXXX___ --patterns L";
-    lists(&rt, line, &[], b"L0:8,0\ncombo 1\n")?;
-    let kicks = ["--kicks", table.as_str()];
-    lists(&rt, line, &kicks, b"LL:9,1\ncombo 1\n")?;
-    let fault = ["I", "--kicks", "TR:0,0"];
-    refused(&rt, ONE_ROW, &fault, b"", b"input: Kicks.Unexpected 6\n")
+    refuses_all(&rt, FAULTS)
 }

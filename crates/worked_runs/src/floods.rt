@@ -4,10 +4,9 @@ ghost use Rattle.std.specs.Prelude.{◌≡◌, ◌<◌};
 use moves::{DropMode, Key, fall, spawn, step};
 use reach::{Places, Steps, places};
 use srs::{Piece, Placement, Rules, canonical, is_inside};
-use std::alloc::Global;
+use std::alloc::{AllocError, Global};
 use std::marker::Brand;
 use std::sync::ledger::{Blank, Ledger};
-use std::test::Fail;
 use well::Well;
 
 /// Whether a placement was met, for each rotation, row and column.
@@ -36,7 +35,7 @@ fn walked(
     rules: &Rules,
     piece: Piece,
     mode: DropMode,
-) -> Result<Vec<Placement>, Fail> {
+) -> Result<Vec<Placement>, AllocError> {
     let mut met = vec![in alloc; false; 920]?;
     let mut states = Vec::new(alloc);
     states.push(spawn(piece))?;
@@ -62,7 +61,7 @@ fn walked(
 }
 
 /// How many placements the states come to rest at, and which ones.
-fn rested(alloc: Global, well: &Well, states: &[Placement]) -> Result<(usize, Met), Fail> {
+fn rested(alloc: Global, well: &Well, states: &[Placement]) -> Result<(usize, Met), AllocError> {
     let mut met = vec![in alloc; false; 920]?;
     let mut number = 0;
     for state in states {
@@ -95,56 +94,56 @@ fn held(places: &Places, met: &Met) -> Option<usize> {
     None
 }
 
-/// Whether the flood in lanes finds exactly the placements at which a plain walk comes to rest.
-fn agree<L: Ledger>(alloc: Global, field: &[u8], mode: DropMode, blank: Blank) -> Result<bool, Fail>
+/// Whether the floods in lanes find exactly the placements at which plain walks come to rest, for each piece and either
+/// drop mode.
+fn agree<L: Ledger>(alloc: Global, well: &Well, steps: &mut Steps<L>) -> Result<bool, AllocError> {
+    let rules = Rules::srs();
+    for mode in [DropMode::Soft, DropMode::Hard] {
+        for piece in Piece::ALL {
+            let states = walked(alloc, well, &rules, piece, mode)?;
+            let (number, met) = rested(alloc, well, &states)?;
+            let places = places(well, &rules, piece, mode, steps);
+            if held(&places, &met) != Some(number) {
+                return Ok(false);
+            }
+        }
+    }
+    Ok(true)
+}
+
+/// Whether the floods agree in each field.
+fn agree_in_fields<L: Ledger>(alloc: Global, blank: Blank) -> Result<bool, AllocError>
     requires name { blank.name ≡ L.name }
     requires parts { blank.parts ≡ L.parts }
     requires some { 0 < blank.parts }
 {
     let mut steps = Steps::<L>::new(blank);
-    let well = Well::from_rows(field).ok().ok_or("no field")?;
-    agree_in(alloc, &well, mode, &mut steps)
-}
-
-/// The same in a well.
-fn agree_in<L: Ledger>(
-    alloc: Global,
-    well: &Well,
-    mode: DropMode,
-    steps: &mut Steps<L>,
-) -> Result<bool, Fail> {
-    let rules = Rules::srs();
-    for piece in Piece::ALL {
-        let states = walked(alloc, well, &rules, piece, mode)?;
-        let (number, met) = rested(alloc, well, &states)?;
-        let places = places(well, &rules, piece, mode, steps);
-        if held(&places, &met) != Some(number) {
+    for field in FIELDS {
+        let Ok(well) = Well::from_rows(field) else {
+            return Ok(false);
+        };
+        if !agree(alloc, &well, &mut steps)? {
             return Ok(false);
         }
     }
     Ok(true)
 }
 
-/// Whether the floods of all pieces with either drop mode agree in this many stacks of this many rows.
-fn agree_in_stacks<L: Ledger>(
-    alloc: Global,
-    rows: u8,
-    count: u32,
-    blank: Blank,
-) -> Result<bool, Fail>
+/// Whether the floods agree in stacks of six, seven and eight rows.
+fn agree_in_stacks<L: Ledger>(alloc: Global, blank: Blank) -> Result<bool, AllocError>
     requires name { blank.name ≡ L.name }
     requires parts { blank.parts ≡ L.parts }
     requires some { 0 < blank.parts }
 {
     let mut steps = Steps::<L>::new(blank);
-    let mut random = u64::from(rows);
-    for _ in 0..count {
-        let (well, next) = stack(random, rows);
-        random = next;
-        let soft = agree_in(alloc, &well, DropMode::Soft, &mut steps)?;
-        let hard = agree_in(alloc, &well, DropMode::Hard, &mut steps)?;
-        if !soft || !hard {
-            return Ok(false);
+    for rows in 6..9u8 {
+        let mut random = u64::from(rows);
+        for _ in 0..STACKS {
+            let (well, next) = stack(random, rows);
+            random = next;
+            if !agree(alloc, &well, &mut steps)? {
+                return Ok(false);
+            }
         }
     }
     Ok(true)
@@ -174,7 +173,7 @@ fn shuffled(number: u64) -> u64 {
 }
 
 /// The fields of the worked solutions, overhangs that only kicks lead under, and a spawn that is not free.
-const FIELDS: [&[u8]; 8] = [
+const FIELDS: &[&[u8]] = &[
     b"XXXXXX____",
     b"XXXXXX____/XXXXXX____",
     b"XXXXXXXX__/XXXXXX____/XXXXXXXX__",
@@ -185,22 +184,15 @@ const FIELDS: [&[u8]; 8] = [
     b"____X_____/__________/__________/__________/__________/__________/__________/__________/__________/__________/__________/__________/__________/__________/__________/__________/__________/__________/__________/__________/__________",
 ];
 
-#[test]
-fn floods_agree_with_plain_walks(rt: HostRuntime) -> Result<(), Fail> {
-    for field in FIELDS {
-        assert!(rt; agree::<Brand>(rt.alloc(), field, DropMode::Soft, Blank::new(1))?);
-        assert!(rt; agree::<Brand>(rt.alloc(), field, DropMode::Hard, Blank::new(1))?);
-    }
-    Ok(())
-}
-
 /// How many stacks of each height are flooded, for each piece and either drop mode.
 const STACKS: u32 = 80;
 
 #[test]
-fn floods_agree_with_plain_walks_in_stacks(rt: HostRuntime) -> Result<(), Fail> {
-    assert!(rt; agree_in_stacks::<Brand>(rt.alloc(), 6, STACKS, Blank::new(1))?);
-    assert!(rt; agree_in_stacks::<Brand>(rt.alloc(), 7, STACKS, Blank::new(1))?);
-    assert!(rt; agree_in_stacks::<Brand>(rt.alloc(), 8, STACKS, Blank::new(1))?);
-    Ok(())
+fn floods_agree_with_plain_walks(rt: HostRuntime) {
+    assert!(rt; agree_in_fields::<Brand>(rt.alloc(), Blank::new(1)) == Ok(true));
+}
+
+#[test]
+fn floods_agree_with_plain_walks_in_stacks(rt: HostRuntime) {
+    assert!(rt; agree_in_stacks::<Brand>(rt.alloc(), Blank::new(1)) == Ok(true));
 }

@@ -1,5 +1,5 @@
 // Solutions as fumen texts and as grids.
-use run_outcomes::asserts::{lists, over};
+use run_outcomes::asserts::{Case, ends_with, is_so, lists_all, newlines, over, refused, writes};
 use std::test::Fail;
 
 const ONE: &str = "path --rows XXXXXX____ --clear-line 1 --patterns I --hold avoid --format";
@@ -12,78 +12,53 @@ const OVERHANG: &str =
 const HARD: &str =
     "path --rows XXXXXX____/XXXXXX____ --clear-line 2 --patterns LL --drop hard --keys yes --format";
 
-const OVERHANG_GRID: &[u8] = b"I0:7,1 O0:8,0\n\
-    XXXXXXXX__\nXXXXXXIIII\nXXXXXXXX__\n\n\
-    XXXXXXXXOO\nXXXXXXXXOO\n\nend 1\n";
-
-#[test]
-fn fumens(rt: HostRuntime) -> Result<(), Fail> {
-    lists(&rt, ONE, &["fumen"], b"v115@bhF8NexRJ\nend 1\n")?;
-    lists(
-        &rt,
+const FORMS: &[Case] = &[
+    (ONE, &["fumen"], b"v115@bhF8NexRJ\nend 1\n"),
+    (
         ONE,
         &["fumen", "--keys", "yes"],
         b"v115@bhF8NexRYEAyrxIC\nend 1\n",
-    )?;
-    lists(&rt, TWO, &["fumen"], b"v115@RhF8DeF8NexRJvhAxxB\nend 1\n")
-}
-
-#[test]
-fn grids(rt: HostRuntime) -> Result<(), Fail> {
-    lists(&rt, OVERHANG, &["grid"], OVERHANG_GRID)?;
-    lists(
-        &rt,
+    ),
+    (TWO, &["fumen"], b"v115@RhF8DeF8NexRJvhAxxB\nend 1\n"),
+    (
+        OVERHANG,
+        &["grid"],
+        b"I0:7,1 O0:8,0\n\
+        XXXXXXXX__\nXXXXXXIIII\nXXXXXXXX__\n\n\
+        XXXXXXXXOO\nXXXXXXXXOO\n\nend 1\n",
+    ),
+    (
         TWO,
         &["grid"],
         b"I0:7,0 I0:7,0\nXXXXXX____\nXXXXXXIIII\n\nXXXXXXIIII\n\nend 1\n",
-    )
-}
-
-fn first_line(bytes: &[u8]) -> &[u8] {
-    match bytes.iter().position(|byte| *byte == b'\n') {
-        Some(end) => &bytes[..end],
-        None => bytes,
-    }
-}
+    ),
+    (
+        HARD,
+        &["grid"],
+        b"L0:8,0:RRRRH L2:7,1:RRRCCH\n\
+        XXXXXX___L\nXXXXXX_LLL\n\n\
+        XXXXXXLLLX\nXXXXXXLXXX\n\nend 1\n",
+    ),
+    (HARD, &["text"], b"L0:8,0:RRRRH L2:7,1:RRRCCH\nend 1\n"),
+    (
+        HARD,
+        &["fumen"],
+        b"v115@RhF8DeF8NeSSYFAyrhqCoAAAAvhAisQGAyr53Bj8AA?A\nend 1\n",
+    ),
+];
 
 #[test]
-fn keys_in_each_form(rt: HostRuntime) -> Result<(), Fail> {
-    let keyed = b"L0:8,0:RRRRH L2:7,1:RRRCCH\n";
-    let ended = over(&rt, HARD, &["grid"], b"")?;
-    assert_eq!(rt; ended.status.code(), 0);
-    assert!(rt; ended.out.bytes().starts_with(keyed));
-    assert!(rt;
-        ended.out.bytes().ends_with(
-            b"\nXXXXXX___L\nXXXXXX_LLL\n\nXXXXXXLLLX\nXXXXXXLXXX\n\nend 1\n",
-        )
-    );
-    let ended = over(&rt, HARD, &["text"], b"")?;
-    assert_eq!(rt;
-        ended.out.bytes(),
-        b"L0:8,0:RRRRH L2:7,1:RRRCCH\nend 1\n".as_slice()
-    );
-    let ended = over(&rt, HARD, &["fumen"], b"")?;
-    let decoded = over(&rt, "decode", &[], first_line(ended.out.bytes()))?;
-    assert_eq!(rt; decoded.status.code(), 0);
-    assert_eq!(rt;
-        decoded.out.bytes(),
-        b"XXXXXX____/XXXXXX____| L0:8,0 --cl #RRRRH\n\
-        XXXXXX___L/XXXXXX_LLL| L2:7,1 ---l #RRRCCH\n"
-            .as_slice()
-    );
-    Ok(())
+fn solutions_in_each_form(rt: HostRuntime) -> Result<(), Fail> {
+    lists_all(&rt, FORMS)?;
+    let fumen = b"v115@RhF8DeF8NeSSYFAyrhqCoAAAAvhAisQGAyr53Bj8AA?A";
+    let keyed = b"XXXXXX____/XXXXXX____| L0:8,0 --cl #RRRRH\n\
+        XXXXXX___L/XXXXXX_LLL| L2:7,1 ---l #RRRCCH\n";
+    writes(&rt, "decode", fumen, keyed)
 }
 
 #[test]
 fn what_is_no_form(rt: HostRuntime) -> Result<(), Fail> {
-    let ended = over(&rt, ONE, &["Grid"], b"")?;
-    assert_eq!(rt; ended.status.code(), 2);
-    assert_eq!(rt; ended.err.bytes(), b"input: Words.BadValue 10\n".as_slice());
-    Ok(())
-}
-
-fn newlines(bytes: &[u8]) -> usize {
-    bytes.iter().filter(|byte| **byte == b'\n').count()
+    refused(&rt, ONE, &["Grid"], b"", b"input: Words.BadValue 10\n")
 }
 
 fn fumen_lines(bytes: &[u8]) -> usize {
@@ -93,23 +68,37 @@ fn fumen_lines(bytes: &[u8]) -> usize {
         .count()
 }
 
-#[test]
-fn each_fumen_is_read(rt: HostRuntime) -> Result<(), Fail> {
-    let opener = "path --tetfu v115@9gD8DeF8CeG8BeH8CeC8JeAgH --patterns *p4 --format fumen";
-    let listed = over(&rt, opener, &[], b"")?;
-    assert_eq!(rt; listed.status.code(), 0);
-    assert_eq!(rt; newlines(listed.out.bytes()), 40);
-    assert!(rt; listed.out.bytes().ends_with(b"\nend 39\n"));
-    assert_eq!(rt; fumen_lines(listed.out.bytes()), 39);
-    for line in listed.out.bytes().split(|byte| *byte == b'\n') {
+/// Whether both commands read a fumen of three pages.
+fn is_read(rt: &impl AllocGlobal, fumen: &[u8]) -> Result<bool, Fail> {
+    let decoded = over(rt, "decode", &[], fumen)?;
+    let shown = over(rt, "show", &[], fumen)?;
+    Ok(
+        decoded.status.code() == 0
+            && newlines(decoded.out.bytes()) == 3
+            && shown.status.code() == 0
+            && shown.out.bytes().starts_with(b"page 1\n"),
+    )
+}
+
+/// Asserts that each fumen of a report is read.
+fn are_read(rt: &impl AllocGlobal, report: &[u8]) -> Result<(), Fail> {
+    for line in report.split(|byte| *byte == b'\n') {
         if line.starts_with(b"v115@") {
-            let decoded = over(&rt, "decode", &[], line)?;
-            assert_eq!(rt; decoded.status.code(), 0);
-            assert_eq!(rt; newlines(decoded.out.bytes()), 3);
-            let shown = over(&rt, "show", &[], line)?;
-            assert_eq!(rt; shown.status.code(), 0);
-            assert!(rt; shown.out.bytes().starts_with(b"page 1\n"));
+            is_so(is_read(rt, line)?, "a fumen that is not read")?;
         }
     }
     Ok(())
+}
+
+#[test]
+fn each_fumen_is_read(rt: HostRuntime) -> Result<(), Fail> {
+    let opener = "path --tetfu v115@9gD8DeF8CeG8BeH8CeC8JeAgH --patterns *p4 --format fumen";
+    ends_with(&rt, opener, &[], b"", b"\nend 39\n")?;
+    let listed = over(&rt, opener, &[], b"")?;
+    let report = listed.out.bytes();
+    is_so(
+        newlines(report) == 40 && fumen_lines(report) == 39,
+        "39 fumens",
+    )?;
+    are_read(&rt, report)
 }

@@ -14,8 +14,6 @@ mod formats;
 #[cfg(test)]
 mod held;
 #[cfg(test)]
-mod keys;
-#[cfg(test)]
 mod left_alone;
 #[cfg(test)]
 mod limits;

@@ -3,6 +3,3 @@ use Rattle.worked_answers.proofs.good_queues.queues_alone_and_all_queues_say_the
 
 abbrev pub ghosts-good_count : goal.ghosts-good_count
 ghosts-good_count g a = record { name = a.blank.name; parts = a.blank.parts }
-
-abbrev pub ghosts-good_alone : goal.ghosts-good_alone
-ghosts-good_alone g a = record { name = a.blank.name; parts = a.blank.parts }
