@@ -8,14 +8,17 @@ fn questions_are_kept(rt: HostRuntime) {
     let mut memo = DeadMemo::new(rt.alloc(), 1).expect(&rt, "memory");
     let well = Well::from_rows(b"XXXXXX____").expect(&rt, "a rows text");
     assert!(rt; !memo.is_dead(&well, 1, &[0; 7]));
-    assert_eq!(rt; note(&mut memo, &well, &[0; 7]), true);
-    assert_eq!(rt; memo.len(), 1);
-    assert!(rt; memo.is_dead(&well, 1, &[0; 7]));
-    assert!(rt; !memo.is_dead(&well, 1, &[1, 0, 0, 0, 0, 0, 0]));
-    assert!(rt; !memo.is_dead(&well, 2, &[0; 7]));
-    assert_eq!(rt; note(&mut memo, &Well::empty(), &[1; 7]), true);
-    assert_eq!(rt; memo.len(), 1);
+    assert!(rt; note(&mut memo, &well, &[0; 7]) && memo.len() == 1);
+    assert!(rt; knows_one_question(&mut memo, &well));
+    assert!(rt; note(&mut memo, &Well::empty(), &[1; 7]) && memo.len() == 1);
     assert!(rt; !memo.is_dead(&well, 1, &[0; 7]));
+}
+
+/// Whether a question of one row and no pieces is known as dead, and neither one with a piece nor one of two rows.
+fn knows_one_question(memo: &mut DeadMemo, well: &Well) -> bool {
+    memo.is_dead(well, 1, &[0; 7])
+        && !memo.is_dead(well, 1, &[1, 0, 0, 0, 0, 0, 0])
+        && !memo.is_dead(well, 2, &[0; 7])
 }
 
 /// Notes a question that counts show to have no tiling.

@@ -27,8 +27,17 @@ fn a_turn_goes_under_an_overhang(rt: HostRuntime) {
     let state = l_piece(Rotation::Left, 9, 1);
     assert!(rt; well.is_free(&state));
     let next = step(&well, &Rules::srs(), &state, Key::Clockwise);
-    assert_eq!(rt; next, Some(l_piece(Rotation::Spawn, 8, 0)));
+    assert!(rt; next == Some(l_piece(Rotation::Spawn, 8, 0)));
 }
+
+/// Keys, and where they move an L that appears: its rotation and its pivot.
+const MOVES: &[(Key, Rotation, u8, u8)] = &[
+    (Key::Left, Rotation::Spawn, 3, 20),
+    (Key::Right, Rotation::Spawn, 5, 20),
+    (Key::Down, Rotation::Spawn, 4, 19),
+    (Key::Clockwise, Rotation::Right, 4, 20),
+    (Key::Anti, Rotation::Left, 4, 20),
+];
 
 #[test]
 fn keys_move_by_one(rt: HostRuntime) {
@@ -36,25 +45,18 @@ fn keys_move_by_one(rt: HostRuntime) {
     let rules = Rules::srs();
     let state = spawn(Piece::L);
     assert!(rt; well.is_free(&state));
-    assert_eq!(rt; fall(&well, &state), l_piece(Rotation::Spawn, 4, 2));
-    let moves = [
-        (Key::Left, l_piece(Rotation::Spawn, 3, 20)),
-        (Key::Right, l_piece(Rotation::Spawn, 5, 20)),
-        (Key::Down, l_piece(Rotation::Spawn, 4, 19)),
-        (Key::Clockwise, l_piece(Rotation::Right, 4, 20)),
-        (Key::Anti, l_piece(Rotation::Left, 4, 20)),
-    ];
-    for (key, next) in moves {
-        assert_eq!(rt; step(&well, &rules, &state, key), Some(next));
+    assert!(rt; fall(&well, &state) == l_piece(Rotation::Spawn, 4, 2));
+    for (key, rotation, x, y) in MOVES {
+        let next = l_piece(*rotation, *x, *y);
+        assert!(rt; step(&well, &rules, &state, *key) == Some(next), "{next:?}");
     }
     let wall = l_piece(Rotation::Spawn, 8, 2);
     assert!(rt; well.is_free(&wall));
-    assert_eq!(rt; step(&well, &rules, &wall, Key::Right), None);
+    assert!(rt; step(&well, &rules, &wall, Key::Right) == None);
 }
 
 #[test]
 fn keys_have_letters(rt: HostRuntime) {
-    let letters = Key::ALL.map(Key::letter);
-    assert_eq!(rt; letters, *b"LRDCA");
+    assert!(rt; Key::ALL.map(Key::letter) == *b"LRDCA");
     assert!(rt; DropMode::Soft.allows(Key::Down) && !DropMode::Hard.allows(Key::Down));
 }

@@ -1,20 +1,27 @@
 // Each call once.
 use number_sets::{as_set, holds, merged, without};
-use std::test::Fail;
+use pc_outside::NoMemory;
+use std::alloc::Global;
+
+fn is_set(alloc: Global, numbers: &[u64], set: &[u64]) -> Result<bool, NoMemory> {
+    let found = as_set(alloc, Vec::from_slice(alloc, numbers)?)?;
+    Ok(found.as_slice() == set)
+}
+
+fn is_merged(alloc: Global) -> Result<bool, NoMemory> {
+    let both = merged(alloc, &[1, 4], &[4, 7])?;
+    Ok(both.as_slice() == [1, 4, 7].as_slice())
+}
+
+fn is_left(alloc: Global) -> Result<bool, NoMemory> {
+    let rest = without(alloc, &[1, 4, 7], &[4, 8])?;
+    Ok(rest.as_slice() == [1, 7].as_slice())
+}
 
 #[test]
-fn sets_of_numbers(rt: HostRuntime) -> Result<(), Fail> {
-    let numbers = [5, 2, 5, 9].to_vec(rt.alloc())?;
-    let (Ok(set), Ok(both), Ok(rest)) = (
-        as_set(rt.alloc(), numbers),
-        merged(rt.alloc(), &[1, 4], &[4, 7]),
-        without(rt.alloc(), &[1, 4, 7], &[4, 8]),
-    ) else {
-        return Err("no memory")?;
-    };
-    assert_eq!(rt; set.as_slice(), [2, 5, 9].as_slice());
-    assert_eq!(rt; both.as_slice(), [1, 4, 7].as_slice());
-    assert_eq!(rt; rest.as_slice(), [1, 7].as_slice());
+fn sets_of_numbers(rt: HostRuntime) {
+    assert!(rt; is_set(rt.alloc(), &[5, 2, 5, 9], &[2, 5, 9]) == Ok(true));
+    assert!(rt; is_merged(rt.alloc()) == Ok(true));
+    assert!(rt; is_left(rt.alloc()) == Ok(true));
     assert!(rt; holds(&[2, 5, 9], 5));
-    Ok(())
 }

@@ -1,46 +1,63 @@
 // Patterns: their queues by number, their elements, and their faults.
 use queue_pattern::{Element, Pattern, PatternFault, Queue};
 use srs::Piece;
-use std::test::Fail;
 
-#[test]
-fn two_of_seven_are_numbered(rt: HostRuntime) -> Result<(), Fail> {
-    let pattern = Pattern::parse("*p2")?;
-    assert_eq!(rt; pattern.len(), 2);
-    assert_eq!(rt; pattern.count(), 42);
-    assert_eq!(rt;
-        pattern.queue(0).as_slice(),
-        [Piece::I, Piece::L].as_slice()
-    );
-    assert_eq!(rt;
-        pattern.queue(6).as_slice(),
-        [Piece::L, Piece::I].as_slice()
-    );
-    assert_eq!(rt;
-        pattern.queue(41).as_slice(),
-        [Piece::S, Piece::J].as_slice()
-    );
-    Ok(())
+/// Patterns, how many queues each has, and how many pieces a queue has.
+const COUNTS: &[(&str, u32, u8)] = &[("*p7,*p4", 4_233_600, 11), ("", 1, 0), ("*p2", 42, 2)];
+
+/// Queues of two of seven pieces, by number.
+const TWO_OF_SEVEN: &[(u32, &[Piece])] = &[
+    (0, &[Piece::I, Piece::L]),
+    (6, &[Piece::L, Piece::I]),
+    (41, &[Piece::S, Piece::J]),
+];
+
+const FAULTS: &[(&str, PatternFault)] = &[
+    ("*p", PatternFault::Unexpected { place: 2 }),
+    ("*p0", PatternFault::Unexpected { place: 2 }),
+    ("[]", PatternFault::Unexpected { place: 1 }),
+    ("TQ", PatternFault::Unexpected { place: 1 }),
+    ("[TTI]p2", PatternFault::RepeatedPiece { place: 2 }),
+    ("[Tt]", PatternFault::RepeatedPiece { place: 2 }),
+    ("[^TILJSZO]", PatternFault::TooManyChosen { place: 0 }),
+    ("[TI]p3", PatternFault::TooManyChosen { place: 0 }),
+    ("*!*!*!TT", PatternFault::PatternTooLong),
+    ("*p7,*p5", PatternFault::TooManyQueues),
+];
+
+fn has_counts(text: &str, queues: u32, pieces: u8) -> bool {
+    match Pattern::parse(text) {
+        Ok(pattern) => pattern.count() == queues && pattern.len() == pieces,
+        Err(_) => false,
+    }
 }
 
 #[test]
-fn bags_are_counted(rt: HostRuntime) -> Result<(), Fail> {
-    assert_eq!(rt; Pattern::parse("*p7,*p4")?.count(), 4_233_600);
-    let empty = Pattern::parse("")?;
-    assert_eq!(rt; empty.count(), 1);
-    assert_eq!(rt; empty.len(), 0);
-    Ok(())
+fn queues_are_counted(rt: HostRuntime) {
+    for (text, queues, pieces) in COUNTS {
+        assert!(rt; has_counts(text, *queues, *pieces), "{text}");
+    }
+}
+
+fn has_queue(pattern: &Pattern, number: u32, pieces: &[Piece]) -> bool {
+    number < pattern.count() && pattern.queue(number).as_slice() == pieces
 }
 
 #[test]
-fn elements_are_read(rt: HostRuntime) -> Result<(), Fail> {
-    let pattern = Pattern::parse("T\ti, [^TIOZS]p2")?;
-    assert_eq!(rt; pattern.elements(), 3);
+fn two_of_seven_are_numbered(rt: HostRuntime) {
+    let pattern = Pattern::parse("*p2").expect(&rt, "a pattern");
+    for (number, pieces) in TWO_OF_SEVEN {
+        assert!(rt; has_queue(&pattern, *number, pieces), "{number}");
+    }
+}
+
+#[test]
+fn elements_are_read(rt: HostRuntime) {
+    let pattern = Pattern::parse("T\ti, [^TIOZS]p2").expect(&rt, "a pattern");
+    assert!(rt; pattern.elements() == 3);
     let last = Element { set: 34, chosen: 2 };
-    assert_eq!(rt; pattern.element(2), last);
-    assert!(rt; last.has(Piece::L));
-    assert!(rt; !last.has(Piece::O));
-    Ok(())
+    assert!(rt; pattern.element(2) == last);
+    assert!(rt; last.has(Piece::L) && !last.has(Piece::O));
 }
 
 #[test]
@@ -49,32 +66,13 @@ fn a_queue_is_a_pattern(rt: HostRuntime) {
     queue.push(Piece::T);
     queue.push(Piece::T);
     let pattern = Pattern::from_queue(&queue);
-    assert_eq!(rt; pattern.elements(), 2);
-    assert_eq!(rt; pattern.len(), 2);
-    assert_eq!(rt; pattern.count(), 1);
-    assert_eq!(rt;
-        pattern.queue(0).as_slice(),
-        [Piece::T, Piece::T].as_slice()
-    );
-}
-
-fn fault_of(text: &str) -> Option<PatternFault> {
-    Pattern::parse(text).err()
+    assert!(rt; pattern.elements() == 2 && pattern.len() == 2 && pattern.count() == 1);
+    assert!(rt; has_queue(&pattern, 0, &[Piece::T, Piece::T]));
 }
 
 #[test]
 fn first_faults_are_found(rt: HostRuntime) {
-    let unexpected = |place| Some(PatternFault::Unexpected { place });
-    assert_eq!(rt; fault_of("*p"), unexpected(2));
-    assert_eq!(rt; fault_of("*p0"), unexpected(2));
-    assert_eq!(rt; fault_of("[]"), unexpected(1));
-    assert_eq!(rt; fault_of("TQ"), unexpected(1));
-    let repeated = Some(PatternFault::RepeatedPiece { place: 2 });
-    assert_eq!(rt; fault_of("[TTI]p2"), repeated);
-    assert_eq!(rt; fault_of("[Tt]"), repeated);
-    let too_many = Some(PatternFault::TooManyChosen { place: 0 });
-    assert_eq!(rt; fault_of("[^TILJSZO]"), too_many);
-    assert_eq!(rt; fault_of("[TI]p3"), too_many);
-    assert_eq!(rt; fault_of("*!*!*!TT"), Some(PatternFault::PatternTooLong));
-    assert_eq!(rt; fault_of("*p7,*p5"), Some(PatternFault::TooManyQueues));
+    for (text, fault) in FAULTS {
+        assert!(rt; Pattern::parse(text).err() == Some(*fault), "{text}");
+    }
 }

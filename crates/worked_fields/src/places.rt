@@ -19,6 +19,13 @@ fn held<L: Ledger>(blank: Blank, well: &Well, piece: Piece, mode: DropMode) -> P
     places(well, &Rules::srs(), piece, mode, &mut steps)
 }
 
+/// What is held for a piece over a well, with a ledger of its own.
+fn flooded(well: &Well, piece: Piece, mode: DropMode) -> Places
+    ensures { piece_of result ≡ piece }
+{
+    held::<Brand>(Blank::new(1), well, piece, mode)
+}
+
 fn placed(piece: Piece, rotation: Rotation, x: u8, y: u8) -> Placement
     ensures { result.piece ≡ piece }
 {
@@ -43,35 +50,29 @@ fn count(held: &Places) -> u8 {
 
 #[test]
 fn a_straight_piece_in_an_empty_well(rt: HostRuntime) {
-    let held = held::<Brand>(Blank::new(1), &Well::empty(), Piece::I, DropMode::Hard);
+    let held = flooded(&Well::empty(), Piece::I, DropMode::Hard);
     let first = placed(Piece::I, Rotation::Spawn, 1, 0);
-    assert_eq!(rt; held.next_after(None), Some(first));
+    assert!(rt; held.next_after(None) == Some(first));
     let flat = placed(Piece::I, Rotation::Spawn, 7, 0);
     let upright = placed(Piece::I, Rotation::Right, 0, 2);
     assert_eq!(rt; held.next_after(Some(&flat)), Some(upright));
     let last = placed(Piece::I, Rotation::Right, 9, 2);
     assert_eq!(rt; held.next_after(Some(&last)), None);
-    assert_eq!(rt; count(&held), 17);
+    assert!(rt; count(&held) == 17);
 }
 
 #[test]
 fn how_many_places_an_empty_well_has(rt: HostRuntime) {
     let well = Well::empty();
-    assert_eq!(rt;
-        count(&held::<Brand>(Blank::new(1), &well, Piece::T, DropMode::Soft)),
-        34
-    );
-    assert_eq!(rt;
-        count(&held::<Brand>(Blank::new(1), &well, Piece::O, DropMode::Hard)),
-        9
-    );
+    assert!(rt; count(&flooded(&well, Piece::T, DropMode::Soft)) == 34);
+    assert!(rt; count(&flooded(&well, Piece::O, DropMode::Hard)) == 9);
 }
 
 #[test]
 fn none_where_the_spawn_is_not_free(rt: HostRuntime) {
     let well = Well::empty().with(4, 20);
-    let held = held::<Brand>(Blank::new(1), &well, Piece::T, DropMode::Soft);
-    assert_eq!(rt; held.next_after(None), None);
+    let held = flooded(&well, Piece::T, DropMode::Soft);
+    assert!(rt; held.next_after(None) == None);
 }
 
 fn taken(held: Places) -> u8 {
@@ -86,16 +87,15 @@ fn taken(held: Places) -> u8 {
 
 #[test]
 fn the_least_is_taken_until_none_is_left(rt: HostRuntime) {
-    let held = held::<Brand>(Blank::new(1), &Well::empty(), Piece::T, DropMode::Soft);
-    assert_eq!(rt; taken(held), 34);
-    assert_eq!(rt; taken(held.below(2)), 16);
+    let held = flooded(&Well::empty(), Piece::T, DropMode::Soft);
+    assert!(rt; taken(held) == 34 && taken(held.below(2)) == 16);
 }
 
 #[test]
 fn a_low_field_and_one_with_a_cell_far_above(rt: HostRuntime) {
     let well = Well::empty().with(0, 0).with(2, 1).with(3, 7);
     let high = well.with(0, 22);
-    let low_held = held::<Brand>(Blank::new(1), &well, Piece::J, DropMode::Soft);
-    let high_held = held::<Brand>(Blank::new(1), &high, Piece::J, DropMode::Soft);
-    assert_eq!(rt; taken(low_held), taken(high_held));
+    let low_held = flooded(&well, Piece::J, DropMode::Soft);
+    let high_held = flooded(&high, Piece::J, DropMode::Soft);
+    assert!(rt; taken(low_held) == taken(high_held));
 }

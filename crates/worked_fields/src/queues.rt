@@ -4,7 +4,6 @@ use hold_queue::{Hand, Hold, QueueSet, Taken};
 use queue_pattern::{Pattern, Queue};
 use srs::Piece;
 use std::process::Abort;
-use std::test::Fail;
 
 fn played(rt: &impl Abort, start: QueueSet, pieces: &[Piece]) -> QueueSet {
     let mut set = start;
@@ -41,75 +40,73 @@ fn piece_of(taken: Option<Taken>) -> Option<Piece> {
     }
 }
 
+/// Which pieces are none of I, L and O.
+const OTHER_THAN_ILO: [bool; 7] = [false, false, false, true, true, true, true];
+
 #[test]
 fn two_pieces_are_played_in_either_order(rt: HostRuntime) {
     let queue = t_then_i();
     let start = QueueSet::start_one(&queue, Hold::Allowed, None);
     let after_i = played(&rt, start, &[Piece::I]);
-    assert_eq!(rt;
-        may_play_next(&after_i),
-        [false, false, false, false, true, false, false]
-    );
+    assert!(rt; may_play_next(&after_i) == [false, false, false, false, true, false, false]);
     let after_both = played(&rt, after_i, &[Piece::T]);
-    assert_eq!(rt; may_play_next(&after_both), [false; 7]);
+    assert!(rt; may_play_next(&after_both) == [false; 7]);
     let avoided = QueueSet::start_one(&queue, Hold::Avoided, None);
-    assert!(rt; !avoided.may_play(Piece::I));
-    assert!(rt; avoided.may_play(Piece::T));
+    assert!(rt; !avoided.may_play(Piece::I) && avoided.may_play(Piece::T));
 }
 
 #[test]
-fn a_second_bag_begins_where_the_first_is_drawn(rt: HostRuntime) -> Result<(), Fail> {
-    let pattern = Pattern::parse("*p7,*p4")?;
+fn a_second_bag_begins_where_the_first_is_drawn(rt: HostRuntime) {
+    let pattern = Pattern::parse("*p7,*p4").expect(&rt, "a pattern");
     let start = QueueSet::start(&pattern, Hold::Allowed, None);
     let after_three = played(&rt, start, &[Piece::I, Piece::L, Piece::O]);
-    assert_eq!(rt;
-        may_play_next(&after_three),
-        [false, false, false, true, true, true, true]
-    );
+    assert!(rt; may_play_next(&after_three) == OTHER_THAN_ILO);
     let after_five = played(&rt, after_three, &[Piece::Z, Piece::T]);
     assert!(rt; !after_five.may_play(Piece::I));
     let after_six = played(&rt, after_five, &[Piece::J]);
     assert!(rt; after_six.may_play(Piece::I));
-    assert_eq!(rt;
-        after_three.permitted(),
-        [false, false, false, true, true, true, true]
-    );
-    Ok(())
+    assert!(rt; after_three.permitted() == OTHER_THAN_ILO);
 }
 
 #[test]
-fn a_piece_held_at_the_start_is_played(rt: HostRuntime) -> Result<(), Fail> {
-    let pattern = Pattern::parse("")?;
+fn a_piece_held_at_the_start_is_played(rt: HostRuntime) {
+    let pattern = Pattern::parse("").expect(&rt, "a pattern");
     let start = QueueSet::start(&pattern, Hold::Allowed, Some(Piece::I));
-    assert!(rt; start.may_play(Piece::I));
-    assert!(rt; !start.may_play(Piece::T));
+    assert!(rt; start.may_play(Piece::I) && !start.may_play(Piece::T));
     let avoided = QueueSet::start(&pattern, Hold::Avoided, Some(Piece::I));
     assert!(rt; !avoided.may_play(Piece::I));
-    Ok(())
 }
 
 #[test]
-fn played_pieces_are_taken_from_the_supply(rt: HostRuntime) -> Result<(), Fail> {
-    let pattern = Pattern::parse("TT[TI]p2")?;
+fn played_pieces_are_taken_from_the_supply(rt: HostRuntime) {
+    let pattern = Pattern::parse("TT[TI]p2").expect(&rt, "a pattern");
     let start = QueueSet::start(&pattern, Hold::Allowed, Some(Piece::T));
-    assert_eq!(rt; start.supply(3), [1, 0, 0, 0, 3, 0, 0]);
+    assert!(rt; start.supply(3) == [1, 0, 0, 0, 3, 0, 0]);
     let after_two = played(&rt, start, &[Piece::T, Piece::T]);
-    assert_eq!(rt; after_two.supply(3), [1, 0, 0, 0, 2, 0, 0]);
-    Ok(())
+    assert!(rt; after_two.supply(3) == [1, 0, 0, 0, 2, 0, 0]);
+}
+
+/// Whether these are the pieces that may be taken from a hand.
+fn takes(hand: &Hand, queue: &Queue, hold: Hold, pieces: (Option<Piece>, Option<Piece>)) -> bool {
+    let (one, other) = hand.takes(queue, hold);
+    (piece_of(one), piece_of(other)) == pieces
 }
 
 #[test]
 fn the_first_piece_or_the_second_is_taken(rt: HostRuntime) {
     let queue = t_then_i();
     let hand = Hand::start(Hold::Allowed, Some(Piece::S));
-    assert_eq!(rt; hand.count(&queue), 3);
-    assert_eq!(rt; piece_of(hand.second(&queue)), Some(Piece::T));
-    let (one, other) = hand.takes(&queue, Hold::Allowed);
-    assert_eq!(rt; piece_of(one), Some(Piece::T));
-    assert_eq!(rt; piece_of(other), Some(Piece::S));
+    assert!(rt; hand.count(&queue) == 3);
+    assert!(rt; piece_of(hand.second(&queue)) == Some(Piece::T));
+    assert!(rt;
+        takes(
+            &hand,
+            &queue,
+            Hold::Allowed,
+            (Some(Piece::T), Some(Piece::S))
+        )
+    );
     let avoided = Hand::start(Hold::Avoided, Some(Piece::S));
-    assert_eq!(rt; avoided.count(&queue), 2);
-    let (one, other) = avoided.takes(&queue, Hold::Avoided);
-    assert_eq!(rt; piece_of(one), Some(Piece::T));
-    assert_eq!(rt; piece_of(other), None);
+    assert!(rt; avoided.count(&queue) == 2);
+    assert!(rt; takes(&avoided, &queue, Hold::Avoided, (Some(Piece::T), None)));
 }

@@ -124,9 +124,8 @@ fn a_plain_search_says_the_same(rt: HostRuntime) {
         let empties = (seed >> 40 & 0xffff) as u16;
         let supply = supply_of((seed >> 32 & 0xff) as u8);
         let answer = tiles(&well_without(empties), 4, &supply);
-        assert_eq!(rt;
-            answer,
-            can_fill(empties, supply, 4),
+        assert!(rt;
+            answer == can_fill(empties, supply, 4),
             "{empties} {supply:?}"
         );
         tiled = tiled.wrapping_add(u32::from(answer));

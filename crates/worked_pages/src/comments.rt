@@ -1,10 +1,10 @@
 // Comments, checked against values of Node.js and a fumen from another program.
 use fumen_comment::{Comment, CommentFault, escape, read_comment, unescape, write_comment};
-use pc_outside::Refused;
-use std::test::Fail;
+use pc_outside::{NoMemory, Refused};
+use std::alloc::Global;
 
 /// Results of `escape` in Node.js, which `unescape` turns back.
-const ESCAPED: [(&[u16], &[u8]); 8] = [
+const ESCAPED: &[(&[u16], &[u8])] = &[
     (&[0x41, 0x5A, 0x61, 0x7A, 0x30, 0x39], b"AZaz09"),
     (&[0x40, 0x2A, 0x5F, 0x2B, 0x2D, 0x2E, 0x2F], b"@*_+-./"),
     (
@@ -33,7 +33,7 @@ const ESCAPED: [(&[u16], &[u8]); 8] = [
 ];
 
 /// Results of `unescape` in Node.js.
-const UNESCAPED: [(&[u8], &[u16]); 16] = [
+const UNESCAPED: &[(&[u8], &[u16])] = &[
     (b"%", &[0x25]),
     (b"%%41", &[0x25, 0x41]),
     (b"%4", &[0x25, 0x34]),
@@ -52,68 +52,105 @@ const UNESCAPED: [(&[u8], &[u16]); 16] = [
     (b"a%20b+c", &[0x61, 0x20, 0x62, 0x2B, 0x63]),
 ];
 
+/// Comment parts in digits: where each begins, its units, and where it ends. The second is
+/// `v115@vhAJHYaAkeEfEXoC+BlvlzByEEfE03k2AlP5ABwvDfE`, of another program, from its action on.
+const PARTS: &[(&[u8], usize, &[u16], usize)] = &[
+    (b"xFAooMDEPBAAA", 1, &[0x68, 0x65, 0x6C, 0x6C, 0x6F], 13),
+    (
+        b"vhAJHYaAkeEfEXoC+BlvlzByEEfE03k2AlP5ABwvDfE",
+        6,
+        &[0x44, 0x54, 0x70AE, 0x7B2C, 0x4E00, 0x5305],
+        43,
+    ),
+];
+
+/// Digits that begin with a faulty comment part.
+const FAULTS: &[(&[u8], CommentFault)] = &[
+    (b"BA/////", CommentFault::BadComment { place: 2 }),
+    (b"BAAA", CommentFault::Truncated { place: 2 }),
+];
+
+fn is_escaped(alloc: Global, units: &[u16], text: &[u8]) -> bool {
+    match escape(alloc, units) {
+        Ok(escaped) => escaped.as_slice() == text,
+        Err(_) => false,
+    }
+}
+
+fn is_unescaped(alloc: Global, text: &[u8], units: &[u16]) -> bool {
+    match unescape(alloc, text) {
+        Ok(comment) => comment.units() == units,
+        Err(_) => false,
+    }
+}
+
 #[test]
-fn escapes(rt: HostRuntime) -> Result<(), Fail> {
+fn escapes(rt: HostRuntime) {
     for (units, text) in ESCAPED {
-        let escaped = escape(rt.alloc(), units).ok().ok_or("no memory")?;
-        assert_eq!(rt; escaped.as_slice(), text);
-        let comment = unescape(rt.alloc(), text).ok().ok_or("no memory")?;
-        assert_eq!(rt; comment.units(), units);
+        assert!(rt; is_escaped(rt.alloc(), units, text), "{units:?}");
+        assert!(rt; is_unescaped(rt.alloc(), text, units), "{units:?}");
     }
-    Ok(())
 }
 
 #[test]
-fn unescapes(rt: HostRuntime) -> Result<(), Fail> {
+fn unescapes(rt: HostRuntime) {
     for (text, units) in UNESCAPED {
-        let comment = unescape(rt.alloc(), text).ok().ok_or("no memory")?;
-        assert_eq!(rt; comment.units(), units);
+        assert!(rt; is_unescaped(rt.alloc(), text, units), "{units:?}");
     }
-    Ok(())
+}
+
+/// A comment part, behind an `x`.
+fn written(alloc: Global) -> Result<Vec<u8>, NoMemory> {
+    let mut out = b"x".to_vec(alloc)?;
+    write_comment(&mut out, b"hello")?;
+    Ok(out)
 }
 
 #[test]
-fn comment_parts(rt: HostRuntime) -> Result<(), Fail> {
-    let mut out = b"x".to_vec(rt.alloc())?;
-    write_comment(&mut out, b"hello").ok().ok_or("no memory")?;
-    assert_eq!(rt; out.as_slice(), b"xFAooMDEPBAAA".as_slice());
-    let (comment, end) = read_comment(rt.alloc(), &out, 1).ok().ok_or("no comment")?;
-    assert_eq!(rt; comment.units(), [0x68, 0x65, 0x6C, 0x6C, 0x6F].as_slice());
-    assert_eq!(rt; end, 13);
-    let fault = read_comment(rt.alloc(), b"BA/////", 0).err();
-    assert_eq!(rt;
-        fault,
-        Some(Refused::Fault(CommentFault::BadComment { place: 2 }))
-    );
-    let fault = read_comment(rt.alloc(), b"BAAA", 0).err();
-    assert_eq!(rt;
-        fault,
-        Some(Refused::Fault(CommentFault::Truncated { place: 2 }))
-    );
-    Ok(())
+fn comments_are_written(rt: HostRuntime) {
+    let out = written(rt.alloc()).expect(&rt, "memory");
+    assert!(rt; out.as_slice() == b"xFAooMDEPBAAA".as_slice());
 }
 
-/// `v115@vhAJHYaAkeEfEXoC+BlvlzByEEfE03k2AlP5ABwvDfE`, from its action on.
-#[test]
-fn comment_of_another_program(rt: HostRuntime) -> Result<(), Fail> {
-    let digits = b"vhAJHYaAkeEfEXoC+BlvlzByEEfE03k2AlP5ABwvDfE";
-    let (comment, end) = read_comment(rt.alloc(), digits, 6)
-        .ok()
-        .ok_or("no comment")?;
-    assert_eq!(rt;
-        comment.units(),
-        [0x44, 0x54, 0x70AE, 0x7B2C, 0x4E00, 0x5305].as_slice()
-    );
-    assert_eq!(rt; end, digits.len());
-    Ok(())
+fn is_part(alloc: Global, digits: &[u8], place: usize, units: &[u16], end: usize) -> bool {
+    if digits.len() < place {
+        return false;
+    }
+    match read_comment(alloc, digits, place) {
+        Ok((comment, behind)) => comment.units() == units && behind == end,
+        Err(_) => false,
+    }
 }
 
 #[test]
-fn units_of_a_comment(rt: HostRuntime) -> Result<(), Fail> {
-    let units = [0xD800u16].to_vec(rt.alloc())?;
-    let comment = Comment::from_units(units);
-    assert_eq!(rt; comment.units(), [0xD800].as_slice());
-    let same = unescape(rt.alloc(), b"%ud800").ok().ok_or("no memory")?;
-    assert!(rt; comment == same);
-    Ok(())
+fn comments_are_read(rt: HostRuntime) {
+    for (digits, place, units, end) in PARTS {
+        assert!(rt;
+            is_part(rt.alloc(), digits, *place, units, *end),
+            "{units:?}"
+        );
+    }
+}
+
+fn is_faulty(alloc: Global, digits: &[u8], fault: CommentFault) -> bool {
+    read_comment(alloc, digits, 0).err() == Some(Refused::Fault(fault))
+}
+
+#[test]
+fn comments_are_refused(rt: HostRuntime) {
+    for (digits, fault) in FAULTS {
+        assert!(rt; is_faulty(rt.alloc(), digits, *fault), "{digits:?}");
+    }
+}
+
+/// Whether half a pair of units makes the comment that is unescaped from its text.
+fn is_half_a_pair(alloc: Global) -> Result<bool, NoMemory> {
+    let comment = Comment::from_units([0xD800u16].to_vec(alloc)?);
+    let same = unescape(alloc, b"%ud800")?;
+    Ok(comment.units() == [0xD800].as_slice() && comment == same)
+}
+
+#[test]
+fn units_of_a_comment(rt: HostRuntime) {
+    assert!(rt; is_half_a_pair(rt.alloc()) == Ok(true));
 }

@@ -21,3 +21,5 @@ mod pieces_of_reads;
 mod selfruns;
 #[cfg(test)]
 mod sources_and_sinks;
+#[cfg(test)]
+mod tables;

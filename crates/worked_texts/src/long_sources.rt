@@ -1,105 +1,140 @@
 // Sources of the most bytes that may be read, and of one byte more.
-use run_outcomes::asserts::over;
-use std::process::Abort;
+use crate::tables::{ends, repeated};
+use pc_outside::NoMemory;
+use std::alloc::Global;
 use std::test::Fail;
 
 const MOST: usize = 4_194_304;
 
-/// A text that is filled up with this byte to a length.
-fn filled(rt: &impl AllocGlobal, text: &[u8], byte: u8, length: usize) -> Result<Vec<u8>, Fail> {
-    let mut whole = Vec::from_slice(rt.alloc(), text)?;
-    for _ in text.len()..length {
-        whole.push(byte)?;
-    }
-    Ok(whole)
+/// A line, a text that is filled up with a byte to the most bytes that may be read, and how that run ends.
+struct LongSource<'a> {
+    line: &'a str,
+    text: &'a [u8],
+    filler: u8,
+    /// The status, the output and the line of a fault.
+    end: (u8, &'a [u8], &'a [u8]),
 }
 
-/// Asserts how a command ends for a text that is filled up with this byte to the most bytes that may be read, and that
-/// one byte more is too many, whatever the text.
-fn reads(
-    rt: &(impl AllocGlobal + Abort),
-    line: &str,
-    text: &[u8],
-    byte: u8,
-    code: u8,
-    out: &[u8],
-    err: &[u8],
-) -> Result<(), Fail> {
-    let ended = over(rt, line, &[], &filled(rt, text, byte, MOST)?)?;
-    assert_eq!(rt; ended.status.code(), code);
-    assert_eq!(rt; ended.out.bytes(), out);
-    assert_eq!(rt; ended.err.bytes(), err);
-    let ended = over(rt, line, &[], &filled(rt, text, byte, MOST + 1)?)?;
-    assert_eq!(rt; ended.status.code(), 2);
-    assert_eq!(rt; ended.out.bytes(), b"".as_slice());
-    assert_eq!(rt; ended.err.bytes(), b"input: SourceTooLong\n".as_slice());
+const FUMENS: &[LongSource<'_>] = &[
+    LongSource {
+        line: "decode",
+        text: b"v115@vhAVQJ",
+        filler: b'?',
+        end: (0, b"| T0:4,0 --cl -\n", b""),
+    },
+    LongSource {
+        line: "show",
+        text: b"v115@vhAVQJ",
+        filler: b' ',
+        end: (0, b"page 1\n____t_____\n___ttt____\n__________\n", b""),
+    },
+    LongSource {
+        line: "show --page 1",
+        text: b"",
+        filler: b' ',
+        end: (2, b"", b"input: Fumen.NoFumen\n"),
+    },
+    LongSource {
+        line: "decode",
+        text: b"v115@vhAVQJ&",
+        filler: b'x',
+        end: (0, b"| T0:4,0 --cl -\n", b""),
+    },
+    LongSource {
+        line: "decode",
+        text: b"",
+        filler: b' ',
+        end: (2, b"", b"input: Fumen.NoFumen\n"),
+    },
+];
+
+const FIELDS: &[LongSource<'_>] = &[
+    LongSource {
+        line: "path --tetfu - --clear-line 1 --patterns I",
+        text: b"v115@bhF8NeAgH",
+        filler: b'?',
+        end: (0, b"I0:7,0\nend 1\n", b""),
+    },
+    LongSource {
+        line: "percent --tetfu - --clear-line 1 --patterns I",
+        text: b"v115@bhF8NeAgH",
+        filler: b'\n',
+        end: (0, b"queues 1\ngood 1\nrate 10000\n", b""),
+    },
+    LongSource {
+        line: "combo --tetfu - --patterns I",
+        text: b"v115@bhF8NeAgH",
+        filler: b'\t',
+        end: (0, b"I0:7,0\ncombo 1\n", b""),
+    },
+];
+
+const LINES: &[LongSource<'_>] = &[
+    LongSource {
+        line: "encode",
+        text: b"",
+        filler: b'\n',
+        end: (2, b"", b"input: List.BadLine 1\n"),
+    },
+    LongSource {
+        line: "encode",
+        text: b"| - --cl #",
+        filler: b'%',
+        end: (2, b"", b"input: Encode.CommentTooLong 1\n"),
+    },
+    LongSource {
+        line: "cover --rows XXXXXX____ --clear-line 1 --patterns I",
+        text: b"end 1\n",
+        filler: b'0',
+        end: (2, b"", b"input: Cover.BadSequence 2\n"),
+    },
+    LongSource {
+        line: "cover --rows XXXXXXX___ --clear-line 1 --patterns I",
+        text: b"end 1\n",
+        filler: b'\n',
+        end: (2, b"", b"input: Cover.TooManySequences 100002\n"),
+    },
+];
+
+/// A text that is filled up with this byte to a length.
+fn filled(alloc: Global, text: &[u8], filler: u8, length: usize) -> Result<Vec<u8>, NoMemory> {
+    repeated(
+        alloc,
+        text,
+        &[filler],
+        length.saturating_sub(text.len()),
+        b"",
+    )
+}
+
+/// Asserts how a run ends for a text of the most bytes that may be read, and that one byte more is too many, whatever
+/// the text.
+fn reads(rt: &impl AllocGlobal, case: &LongSource<'_>) -> Result<(), Fail> {
+    let most = filled(rt.alloc(), case.text, case.filler, MOST)?;
+    ends(rt, (case.line, &[], &most), case.end)?;
+    let more = filled(rt.alloc(), case.text, case.filler, MOST + 1)?;
+    let too_long = (2, b"".as_slice(), b"input: SourceTooLong\n".as_slice());
+    ends(rt, (case.line, &[], &more), too_long)
+}
+
+fn reads_all(rt: &impl AllocGlobal, cases: &[LongSource<'_>]) -> Result<(), Fail> {
+    for case in cases {
+        reads(rt, case)?;
+    }
     Ok(())
 }
 
 #[test]
 fn fumen_texts(rt: HostRuntime) -> Result<(), Fail> {
-    let page = b"v115@vhAVQJ";
-    reads(&rt, "decode", page, b'?', 0, b"| T0:4,0 --cl -\n", b"")?;
-    let shown = b"page 1\n____t_____\n___ttt____\n__________\n";
-    reads(&rt, "show", page, b' ', 0, shown, b"")?;
-    reads(
-        &rt,
-        "show --page 1",
-        b"",
-        b' ',
-        2,
-        b"",
-        b"input: Fumen.NoFumen\n",
-    )?;
-    let link = b"v115@vhAVQJ&";
-    reads(&rt, "decode", link, b'x', 0, b"| T0:4,0 --cl -\n", b"")?;
-    reads(&rt, "decode", b"", b' ', 2, b"", b"input: Fumen.NoFumen\n")
+    reads_all(&rt, FUMENS)
 }
 
 #[test]
 fn fields(rt: HostRuntime) -> Result<(), Fail> {
-    let field = b"v115@bhF8NeAgH";
-    let path = "path --tetfu - --clear-line 1 --patterns I";
-    reads(&rt, path, field, b'?', 0, b"I0:7,0\nend 1\n", b"")?;
-    let percent = "percent --tetfu - --clear-line 1 --patterns I";
-    let numbers = b"queues 1\ngood 1\nrate 10000\n";
-    reads(&rt, percent, field, b'\n', 0, numbers, b"")?;
-    let combo = "combo --tetfu - --patterns I";
-    reads(&rt, combo, field, b'\t', 0, b"I0:7,0\ncombo 1\n", b"")
+    reads_all(&rt, FIELDS)
 }
 
 #[test]
 fn lines(rt: HostRuntime) -> Result<(), Fail> {
-    reads(
-        &rt,
-        "encode",
-        b"",
-        b'\n',
-        2,
-        b"",
-        b"input: List.BadLine 1\n",
-    )?;
-    let comment = b"| - --cl #";
-    let long = b"input: Encode.CommentTooLong 1\n";
-    reads(&rt, "encode", comment, b'%', 2, b"", long)?;
-    let cover = "cover --rows XXXXXX____ --clear-line 1 --patterns I";
-    reads(
-        &rt,
-        cover,
-        b"end 1\n",
-        b'0',
-        2,
-        b"",
-        b"input: Cover.BadSequence 2\n",
-    )?;
-    let none = "cover --rows XXXXXXX___ --clear-line 1 --patterns I";
-    reads(
-        &rt,
-        none,
-        b"end 1\n",
-        b'\n',
-        2,
-        b"",
-        b"input: Cover.TooManySequences 100002\n",
-    )
+    reads_all(&rt, LINES)
 }
