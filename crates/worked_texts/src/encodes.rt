@@ -1,7 +1,7 @@
 // Runs of `encode`, which reads the lines of pages from the source.
-use crate::tables::{TextCase, refuses_all_texts, repeated, succeeds};
+use crate::tables::{repeated, succeeds};
 use pc_outside::NoMemory;
-use run_outcomes::asserts::{refused, writes};
+use run_outcomes::asserts::{TextCase, refused, refuses_all_texts, writes};
 use std::alloc::Global;
 use std::test::Fail;
 

@@ -1,6 +1,7 @@
 // Reads and writes that fail, and sinks without enough room.
-use crate::tables::{has_ended, holds, succeeds};
+use crate::tables::{has_ended, succeeds};
 use pc_outside::{MemorySink, MemorySource, NoMemory};
+use run_outcomes::asserts::is_so;
 use run_outcomes::{Outcome, run_into, run_words};
 use std::alloc::Global;
 use std::test::Fail;
@@ -122,7 +123,7 @@ fn write_past_the_last(alloc: Global, case: (&str, &[u8]), whole: &[u8]) -> Resu
 fn each_write_fails(rt: &impl AllocGlobal, (line, text): (&str, &[u8])) -> Result<(), Fail> {
     let whole = succeeds(rt, line, text)?;
     let past = write_past_the_last(rt.alloc(), (line, text), whole.out.bytes())?;
-    holds(1 < past, line)
+    is_so(1 < past, line)
 }
 
 fn each_write_of_all_fails(rt: &impl AllocGlobal, cases: &[(&str, &[u8])]) -> Result<(), Fail> {
@@ -148,7 +149,7 @@ fn with_failing_read(
 fn each_read_fails(rt: &impl AllocGlobal, line: &str, text: &[u8], reads: u32) -> Result<(), Fail> {
     for read in 1..=reads {
         let ended = with_failing_read(rt.alloc(), line, text, read)?;
-        holds(has_ended(&ended, 3, b"", b""), line)?;
+        is_so(has_ended(&ended, 3, b"", b""), line)?;
     }
     Ok(())
 }
@@ -212,5 +213,5 @@ fn five_squares(rt: HostRuntime) -> Result<(), Fail> {
     let whole = succeeds(&rt, SQUARES, b"")?;
     let squares = whole.out.bytes();
     let is_whole = squares.ends_with(b"\nend 120\n");
-    holds(is_whole && fail_early(rt.alloc(), squares)?, SQUARES)
+    is_so(is_whole && fail_early(rt.alloc(), squares)?, SQUARES)
 }

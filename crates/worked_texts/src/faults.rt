@@ -1,5 +1,5 @@
 // Runs that are refused, each with the line of its first fault.
-use crate::tables::{Case, refuses_all};
+use run_outcomes::asserts::{Case, refuses_all};
 use std::test::Fail;
 
 const WORDS: &[Case<'_>] = &[

@@ -1,8 +1,8 @@
 // Other tables of offsets: how they change `path`, and what `kicks` writes for them.
-use crate::tables::{Case, has_ended, holds, lists_all, refuses_all};
+use crate::tables::has_ended;
 use kick_file::{parse, print};
 use pc_outside::{MemorySource, NoMemory, Source};
-use run_outcomes::asserts::{lists, over};
+use run_outcomes::asserts::{Case, is_so, lists, lists_all, over, refuses_all};
 use run_outcomes::{Outcome, run_words};
 use std::alloc::Global;
 use std::test::Fail;
@@ -85,7 +85,7 @@ fn faults_of_tables(rt: HostRuntime) -> Result<(), Fail> {
 fn kicks_of(rt: &impl AllocGlobal, text: &str) -> Result<Vec<u8>, Fail> {
     let ended = over(rt, "kicks --kicks", &[text], b"")?;
     let output = ended.out.bytes();
-    holds(has_ended(&ended, 0, output, b""), text)?;
+    is_so(has_ended(&ended, 0, output, b""), text)?;
     Ok(Vec::from_slice(rt.alloc(), output)?)
 }
 
@@ -128,7 +128,7 @@ fn printed_again(rt: &impl AllocGlobal, text: &str) -> Result<(), Fail> {
     let output = kicks_of(rt, text)?;
     let entries = String::from_utf8(entries(rt.alloc(), &output)?);
     let again = kicks_of(rt, entries.ok().ok_or("no text")?.as_str())?;
-    holds(output.as_slice() == again.as_slice(), text)
+    is_so(output.as_slice() == again.as_slice(), text)
 }
 
 #[test]
@@ -204,7 +204,7 @@ fn printed_as_read(rt: &impl AllocGlobal, first: u64) -> Result<(), Fail> {
         let text = text.ok().ok_or("no text")?;
         let rules = parse(text.as_str())?;
         let printed = print(rt.alloc(), &rules)?;
-        holds(printed.as_slice() == text.as_bytes(), text.as_str())?;
+        is_so(printed.as_slice() == text.as_bytes(), text.as_str())?;
     }
     Ok(())
 }

@@ -1,6 +1,7 @@
 // Sources of the most bytes that may be read, and of one byte more.
-use crate::tables::{ends, repeated};
+use crate::tables::repeated;
 use pc_outside::NoMemory;
+use run_outcomes::asserts::ends;
 use std::alloc::Global;
 use std::test::Fail;
 

@@ -1,9 +1,9 @@
 // Sources that give few bytes at a time: that doesn't change how a run ends.
 ghost use Rattle.std.specs.Prelude.{◌≤◌};
 
-use crate::tables::{has_ended, holds, repeated};
+use crate::tables::{has_ended, repeated};
 use pc_outside::{MemorySource, NoMemory};
-use run_outcomes::asserts::over;
+use run_outcomes::asserts::{is_so, over};
 use run_outcomes::{Outcome, run_words};
 use std::alloc::Global;
 use std::test::Fail;
@@ -79,7 +79,7 @@ fn is_alike(
 fn ends_alike(rt: &impl AllocGlobal, line: &str, text: &[u8]) -> Result<(), Fail> {
     let whole = over(rt, line, &[], text)?;
     for piece in PIECES {
-        holds(
+        is_so(
             0 < *piece && is_alike(rt.alloc(), line, text, &whole, *piece)?,
             line,
         )?;

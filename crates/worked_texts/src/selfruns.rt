@@ -1,9 +1,9 @@
 // Runs of `selfrun`, and its pages by the public calls.
-use crate::tables::{Case, refuses_all, succeeds};
+use crate::tables::succeeds;
 use fumen_digits::Dialect;
 use fumen_text::{decode, encode};
 use pc_app::sample_pages;
-use run_outcomes::asserts::lists;
+use run_outcomes::asserts::{Case, lists, refuses_all};
 use std::alloc::Global;
 use std::test::Fail;
 
