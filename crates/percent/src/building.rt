@@ -45,16 +45,6 @@ impl Game {
             DropMode::Soft => false,
         }
     }
-
-    /// Whether it pays to ask which hands a tiling may serve, with `left` placements to come. With fewer or more of
-    /// them the test costs more than what it spares.
-    fn asks_orders(&self, left: u8) -> bool {
-        match (self.drops(), self.hold) {
-            (true, _) => (4..=8).contains(&left),
-            (false, Hold::Avoided) => (6..=7).contains(&left),
-            (false, Hold::Allowed) => false,
-        }
-    }
 }
 
 impl Question {
@@ -278,9 +268,17 @@ impl Marks {
         Ok(may)
     }
 
-    /// Whether it pays to ask which hands a listed tiling may serve, with `left` placements to come.
+    /// Whether it pays to ask which hands a listed tiling may serve, with `left` placements to come. With fewer or more
+    /// of them the test costs more than what it spares.
     pub fn asks_orders(&self, game: &Game, left: u8) -> bool {
-        !self.is_empty() && game.asks_orders(left)
+        if self.is_empty() {
+            return false;
+        }
+        match (game.drops(), game.hold) {
+            (true, _) => (4..=8).contains(&left),
+            (false, Hold::Avoided) => (6..=7).contains(&left),
+            (false, Hold::Allowed) => false,
+        }
     }
 
     /// Those of the hands that a listed tiling may serve, with `left` placements to come. The others are not good.

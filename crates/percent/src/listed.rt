@@ -33,19 +33,14 @@ fn all_counts(
     Ok(v)
 }
 
-/// With at most how many placements to come after one it pays to list tilings on low fields. Where a piece of each
-/// hand stays over, there are many more tilings.
-fn most_left(hold: Hold) -> u8 {
-    match hold {
+/// For how many counts of pieces it pays to list the ordered tilings of a position, with one placement to come and
+/// then `left` more. High fields have too many, and there are many more where a piece of each hand stays over.
+fn most_counts(hold: Hold, rows: u8, left: u8) -> usize {
+    let most_left = match hold {
         Hold::Avoided => 8,
         Hold::Allowed => 7,
-    }
-}
-
-/// For how many counts of pieces it pays to list the ordered tilings of a position, with one placement to come and
-/// then `left` more. High fields have too many.
-fn most_counts(hold: Hold, rows: u8, left: u8) -> usize {
-    if rows <= 4 && left <= most_left(hold) {
+    };
+    if rows <= 4 && left <= most_left {
         return 64;
     }
     if left <= 3 { 8 } else { 0 }

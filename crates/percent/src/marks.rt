@@ -155,7 +155,7 @@ impl Marks {
     }
 
     /// How many tilings are listed.
-    fn len(&self) -> usize {
+    fn count_tilings(&self) -> usize {
         let mut count = 0usize;
         for mark in &self.known {
             count = count.saturating_add(mark.tilings.tilings.len());
@@ -172,7 +172,7 @@ impl Marks {
     ) -> Result<bool, NoMemory>
         ensures { self.new.position ≡ self.old.position }
     {
-        let most = MOST.saturating_sub(self.len());
+        let most = MOST.saturating_sub(self.count_tilings());
         let Some(mark) = listed(alloc, lister, &self.cells, counts, most) else {
             return Ok(false);
         };

@@ -44,6 +44,11 @@ fn difference(ended: &Outcome, code: u8, output: &[u8], fault: &[u8]) -> Option<
     }
 }
 
+/// Whether a run ended with this status, this output and this line of a fault.
+pub fn has_ended(ended: &Outcome, code: u8, output: &[u8], fault: &[u8]) -> bool {
+    difference(ended, code, output, fault).is_none()
+}
+
 /// Asserts how a run over this text ends. A failure names its words.
 pub fn ends(
     rt: &impl AllocGlobal,

@@ -1,7 +1,7 @@
 // Reads and writes that fail, and sinks without enough room.
-use crate::tables::{has_ended, succeeds};
+use crate::tables::succeeds;
 use pc_outside::{MemorySink, MemorySource, NoMemory};
-use run_outcomes::asserts::is_so;
+use run_outcomes::asserts::{has_ended, is_so};
 use run_outcomes::{Outcome, run_into, run_words};
 use std::alloc::Global;
 use std::test::Fail;

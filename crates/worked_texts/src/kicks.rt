@@ -1,8 +1,9 @@
 // Other tables of offsets: how they change `path`, and what `kicks` writes for them.
-use crate::tables::has_ended;
 use kick_file::{parse, print};
 use pc_outside::{MemorySource, NoMemory, Source};
-use run_outcomes::asserts::{Case, is_so, lists, lists_all, over, refuses_all};
+use run_outcomes::asserts::{
+    Case, has_ended, is_so, lists, lists_all, newlines, over, refuses_all,
+};
 use run_outcomes::{Outcome, run_words};
 use std::alloc::Global;
 use std::test::Fail;
@@ -95,18 +96,13 @@ fn has_line(output: &[u8], line: &[u8]) -> bool {
         .any(|other| other == line)
 }
 
-/// How many lines are in an output that ends with the end of a line.
-fn count_of_lines(output: &[u8]) -> usize {
-    output.iter().filter(|byte| **byte == b'\n').count()
-}
-
 #[test]
 fn the_table_and_its_kicks(rt: HostRuntime) -> Result<(), Fail> {
     let output = kicks_of(&rt, "")?;
     for line in LINES {
         assert!(rt; has_line(&output, line));
     }
-    assert!(rt; count_of_lines(&output) == 84);
+    assert!(rt; newlines(&output) == 84);
     assert!(rt; output.starts_with(b"I0:0,0/-1,0/2,0/-1,0/2,0\nIR:-1,0/0,0/0,0/0,1/0,-2\n"));
     lists(&rt, "kicks", &[], &output)
 }

@@ -1,7 +1,6 @@
 // Runs of `decode` and `show`, which read the source.
-use crate::tables::has_ended;
 use pc_outside::{MemorySource, NoMemory};
-use run_outcomes::asserts::{TextCase, refused, refuses_all_texts, writes, writes_all};
+use run_outcomes::asserts::{TextCase, has_ended, refused, refuses_all_texts, writes, writes_all};
 use run_outcomes::{Outcome, run_words};
 use std::alloc::Global;
 use std::test::Fail;

@@ -1,9 +1,9 @@
 // Sources that give few bytes at a time: that doesn't change how a run ends.
 ghost use Rattle.std.specs.Prelude.{◌≤◌};
 
-use crate::tables::{has_ended, repeated};
+use crate::tables::repeated;
 use pc_outside::{MemorySource, NoMemory};
-use run_outcomes::asserts::{is_so, over};
+use run_outcomes::asserts::{has_ended, is_so, over};
 use run_outcomes::{Outcome, run_words};
 use std::alloc::Global;
 use std::test::Fail;

@@ -3,7 +3,7 @@ use crate::tables::succeeds;
 use fumen_digits::Dialect;
 use fumen_text::{decode, encode};
 use pc_app::sample_pages;
-use run_outcomes::asserts::{Case, lists, refuses_all};
+use run_outcomes::asserts::{Case, lists, newlines, refuses_all};
 use std::alloc::Global;
 use std::test::Fail;
 
@@ -54,17 +54,13 @@ fn has_third_line(output: &[u8], line: &[u8]) -> bool {
     output.split(|byte| *byte == b'\n').nth(2) == Some(line)
 }
 
-fn count_of_lines(output: &[u8]) -> usize {
-    output.iter().filter(|byte| **byte == b'\n').count()
-}
-
 #[test]
 fn a_hundred_pages(rt: HostRuntime) -> Result<(), Fail> {
     let ended = succeeds(&rt, "selfrun --number 0 --pages 100", b"")?;
     let output = ended.out.bytes();
     assert!(rt; output.starts_with(b"pages 100\nbytes "));
     assert!(rt; has_third_line(output, b"same yes"));
-    assert!(rt; count_of_lines(output) == 5);
+    assert!(rt; newlines(output) == 5);
     lists(&rt, "selfrun --pages 100 --number", &["0"], output)
 }
 

@@ -1,14 +1,9 @@
-// How runs ended, and texts that repeat a piece.
+// Runs that end well, and texts that repeat a piece.
 use pc_outside::NoMemory;
 use run_outcomes::Outcome;
 use run_outcomes::asserts::{is_so, over};
 use std::alloc::Global;
 use std::test::Fail;
-
-/// Whether a run ended with this status, this output and this line of a fault.
-pub fn has_ended(ended: &Outcome, code: u8, output: &[u8], fault: &[u8]) -> bool {
-    ended.status.code() == code && ended.out.bytes() == output && ended.err.bytes() == fault
-}
 
 /// A run over this text that ends with status 0.
 pub fn succeeds(rt: &impl AllocGlobal, line: &str, text: &[u8]) -> Result<Outcome, Fail> {
