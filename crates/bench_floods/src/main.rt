@@ -185,7 +185,7 @@ fn taken_sum(sum: u64, held: Places) -> u64 {
 /// The checksum, with one placement added.
 #[inline(always)]
 fn with_placement(sum: u64, placement: &Placement) -> u64 {
-    let number = u64::from(placement.rotation.place()) * 65536
+    let number = u64::from(placement.rotation.index()) * 65536
         + u64::from(placement.y) * 256
         + u64::from(placement.x);
     sum.wrapping_mul(31).wrapping_add(number)

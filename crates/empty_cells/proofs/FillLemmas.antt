@@ -23,7 +23,7 @@ use Rattle.empty_cells.specs.Stacks.{is_allowed, CanFill, Stacks, StacksPiece, i
 use Rattle.empty_cells.proofs.EmptiesLemmas.{CellOf, cell_of}
 use Rattle.empty_cells.proofs.StackLemmas.{Rises, IsWithin, IsSmall, Chosen}
 use Rattle.empty_cells.proofs.ChosenLemmas.{chosen, stacked, follows-first}
-use Rattle.empty_cells.proofs.FormLemmas.{leftmost, lowest, form, distance, place_in, Matches, sent_column, same_cells, left_cell, left_in_stack, stack_right_of, level_within, level_up, row_up, cell_at_level, row_by_level, form_within, form_of_place}
+use Rattle.empty_cells.proofs.FormLemmas.{leftmost, lowest, form, distance, place_in, Matches, sent_column, same_cells, left_cell, left_in_stack, stack_right_of, level_within, level_up, row_up, cell_at_level, row_by_level, form_within, form_with_index}
 
 -- which cells are empty where all but those of a set are filled
 pub empty_is : (height : ℕ) (E : Field) (a b : ℕ) → IsSmall height E → is_empty_below (all_but E) height (pos a, pos b) ≡ E a b
@@ -201,4 +201,4 @@ stacked_first E supply x y small first filling =
 
 -- and where the spans of a piece stack so, the set can be filled
 pub fills_stacked : (E : Field) (supply : Supply) (piece : Piece) (x y : ℕ) → IsSmall 8 E → 0 < supply piece → StacksPiece (less_one supply piece) E x y piece → CanFill 8 supply E
-fills_stacked E supply piece x y small some s = search (rules, fills_chosen, chosen, form_of_place)
+fills_stacked E supply piece x y small some s = search (rules, fills_chosen, chosen, form_with_index)

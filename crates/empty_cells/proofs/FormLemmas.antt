@@ -43,7 +43,7 @@ lowest O _ = pos 0
 lowest _ Spawn = pos 0
 lowest _ _ = minus 1
 
--- the place of its spans among those of the piece
+-- the index of its spans among those of the piece
 abbrev pub form_at : Piece → Rotation → ℕ
 form_at _ Spawn = 0
 form_at O _ = 0
@@ -120,7 +120,7 @@ each_rises : (piece : Piece) (rotation : Rotation) → rises_in piece rotation �
 unfolding rises_in
 each_rises = each_state rises_in refl
 
--- the rotation of the spans at a place
+-- the rotation of the spans with an index
 abbrev pub rotation_at : ℕ → Rotation
 rotation_at zero = Spawn
 rotation_at (suc zero) = Right
@@ -282,10 +282,10 @@ pub row_by_level : (piece : Piece) (rotation : Rotation) (c : Cell) → is_among
 unfolding is_at
 row_by_level piece rotation c has = (Decides-int_eq _ _).0 (and_parts _ _ (is_among-all (is_at piece rotation) (shape piece rotation) c (each_at piece rotation) has)).1
 
--- the place of the spans of a rotation
+-- the index of the spans of a rotation
 pub form_within : (piece : Piece) (rotation : Rotation) → form_at piece rotation < length (forms_of piece)
 form_within piece rotation = ltb-true _ _ (at_within piece rotation)
 
-pub form_of_place : (piece : Piece) (i : ℕ) → i < length (forms_of piece) → form piece (rotation_at i) ≡ get_or (forms_of piece) i []
-form_of_place piece i below =
+pub form_with_index : (piece : Piece) (i : ℕ) → i < length (forms_of piece) → form piece (rotation_at i) ≡ get_or (forms_of piece) i []
+form_with_index piece i below =
     search (rules, list_all_each, form_found, length-range_with_len, get_or-range_with_len, eqb-true)

@@ -21,7 +21,7 @@ use Rattle.empty_cells.specs.HasTiling.{is_empty, can_stack, can_fill, has_tilin
 use Rattle.empty_cells.proofs.SupplyLemmas.{piece_in_all, total, total-less_one}
 use Rattle.empty_cells.proofs.StackLemmas.{IsSmall, Chosen, some_in_span}
 use Rattle.empty_cells.proofs.ChosenLemmas.{was_there, chosen, stacked, follows-all}
-use Rattle.empty_cells.proofs.FormLemmas.{form, form_at, rotation_at, form_within, form_of_place, left_in_stack}
+use Rattle.empty_cells.proofs.FormLemmas.{form, form_at, rotation_at, form_within, form_with_index, left_in_stack}
 use Rattle.empty_cells.proofs.FillLemmas.{fills_nothing, fills_chosen, FilledBy, filled_by}
 use Rattle.empty_cells.proofs.SameTilings.{tiling_below}
 
@@ -118,7 +118,7 @@ fill-from_test (suc n) height supply E small passes = elim (or_cases (is_empty h
         rest = fill-from_test n height (less_one supply piece) (without_stack E x choice.rows spans) (smaller_by_stack height E x choice.rows spans small) choice.rest;
       } in
       fills_chosen height E supply piece (rotation_at by_form.0) x 0 small (ltb-true _ _ parts.0)
-      (subst (λ spans. Chosen (CanFill height (less_one supply piece)) E x 0 spans) (sym (form_of_place piece by_form.0 by_form.1)) filled)
+      (subst (λ spans. Chosen (CanFill height (less_one supply piece)) E x 0 spans) (sym (form_with_index piece by_form.0 by_form.1)) filled)
 ]
 
 some_in_total : (supply : Supply) (piece : Piece) → supply piece ≤ total supply

@@ -7,15 +7,15 @@ use Rattle.lane_board.specs.Words.{cells_of_words}
 use Rattle.lane_board.proofs.CallerLemmas.{has_bit-or, has_bit-zero}
 use Rattle.srs.specs.declared.placement.Placement.{Placement}
 use Rattle.srs.specs.declared.rotation.Rotation.{Rotation}
-use Rattle.srs.specs.Rotation.{rotation_place}
-use Rattle.srs.proofs.CallerLemmas.{rotation_place-injective, rotation_place-small}
+use Rattle.srs.specs.Rotation.{rotation_index}
+use Rattle.srs.proofs.CallerLemmas.{rotation_index-injective, rotation_index-small}
 use Rattle.empty_cells.specs.declared.pivots.Pivots.{Pivots}
 use Rattle.empty_cells.specs.Pivots.{has_pivot}
 use Rattle.empty_cells.proofs.SentLemmas.{one_bit}
 
--- the word of a placement, and the place of its bit there
+-- the word of a placement, and the index of its bit there
 abbrev pub word_of : Placement → ℕ
-word_of q = 2 * rotation_place q.rotation + q.y / 4
+word_of q = 2 * rotation_index q.rotation + q.y / 4
 
 abbrev pub bit_of : Placement → ℕ
 bit_of q = 16 * (q.y % 4) + q.x
@@ -33,7 +33,7 @@ module _ (p : Pivots) (whole : length p.rotations ≡ 8) (q : Placement) (column
   after = record { rotations = with_bit p.rotations word bit }
 
   within : word < length p.rotations
-  within = omega (arith, whole, is_word, rotation_place-small q.rotation)
+  within = omega (arith, whole, is_word, rotation_index-small q.rotation)
 
   in_reach : (r : Placement) → (nat_lt r.x 16 && nat_lt r.y 8) ≡ true → (r.x < 16) × (r.y < 8)
   in_reach r is = let sides = and_parts (nat_lt r.x 16) (nat_lt r.y 8) is in (ltb-true r.x 16 sides.0, ltb-true r.y 8 sides.1)
@@ -56,13 +56,13 @@ module _ (p : Pivots) (whole : length p.rotations ≡ 8) (q : Placement) (column
   pub only_added : (r : Placement) → r.piece ≡ q.piece → has_pivot after r ≡ true → has_pivot p r ≡ false → r ≡ q
   unfolding has_pivot cells_of_words
   only_added r piece has none =
-      search (rules, (and_parts (nat_lt r.x 16 && nat_lt r.y 8)), (cases_eq (word_of r)), or_cases, (bits_here r), (in_reach r), both_ways, and_from, eqb-true, rotation_place-injective, (bits_there r))
+      search (rules, (and_parts (nat_lt r.x 16 && nat_lt r.y 8)), (cases_eq (word_of r)), or_cases, (bits_here r), (in_reach r), both_ways, and_from, eqb-true, rotation_index-injective, (bits_there r))
 
 -- no word of these has a bit
 pub no_words : (k : ℕ) → get_or {A = ℕ} (replicate 8 0) k 0 ≡ 0
 no_words k = search (rules, cases_lt, get_or-replicate, get_or_past)
 
 -- words without a bit have no placement
-pub no_pivot : (words : List ℕ) (rotation : Rotation) (x y : ℕ) → get_or words (2 * rotation_place rotation + y / 4) 0 ≡ 0 → cells_of_words words (rotation_place rotation) x y ≡ false
+pub no_pivot : (words : List ℕ) (rotation : Rotation) (x y : ℕ) → get_or words (2 * rotation_index rotation + y / 4) 0 ≡ 0 → cells_of_words words (rotation_index rotation) x y ≡ false
 unfolding cells_of_words
 no_pivot words rotation x y none = search (rules, has_bit-zero)

@@ -50,16 +50,16 @@ module _ (n k : ℕ) (some : 0 < n / 2 ^ (8 * k) % 256) where
 one_less_byte : (n : ℕ) (piece other : Piece) → 0 < supply_in (to_le_bytes w64 n) piece → supply_in (to_le_bytes w64 (n - 2 ^ (8 * (piece_code piece - 1)))) other ≡ less_one (supply_in (to_le_bytes w64 n)) piece other
 unfolding less_one
 one_less_byte n piece other some =
-    let place = piece_code piece - 1 in
+    let index = piece_code piece - 1 in
     let fewer = n - 2 ^ (8 * (piece_code piece - 1)) in
     let here : 0 < n / 2 ^ (8 * (piece_code piece - 1)) % 256 = omega (arith, some, byte_of n piece) in
     elim (cases_eq (piece_code other) (piece_code piece)) [
       | inl same ↦
-          sym (byte_of fewer other) ∙ ap (λ code. fewer / 2 ^ (8 * (code - 1)) % 256) same ∙ at_byte n place here
+          sym (byte_of fewer other) ∙ ap (λ code. fewer / 2 ^ (8 * (code - 1)) % 256) same ∙ at_byte n index here
           ∙ ap (λ code. n / 2 ^ (8 * (code - 1)) % 256 - 1) (sym same) ∙ ap (λ count. count - 1) (byte_of n other)
           ∙ sym (cond-true _ _ _ (eq-eqb _ _ (sym same)))
       | inr different ↦
-          sym (byte_of fewer other) ∙ other_byte n place here (piece_code other - 1) (λ e. different (omega (arith, e, piece_code-some piece, piece_code-some other)))
+          sym (byte_of fewer other) ∙ other_byte n index here (piece_code other - 1) (λ e. different (omega (arith, e, piece_code-some piece, piece_code-some other)))
           ∙ byte_of n other ∙ sym (cond-false _ _ _ (ne_eqb _ _ (λ e. different (sym e))))
     ]
 
@@ -99,7 +99,7 @@ unfolding supply_in
 seven_bytes s = search (rules, fun_ext)
 
 -- the entries of the mirror image of a supply
-pub places_changed : (s : List ℕ) (piece : Piece) →
+pub codes_changed : (s : List ℕ) (piece : Piece) →
     supply_in (get_or s 0 0 ∷ get_or s 5 0 ∷ get_or s 2 0 ∷ get_or s 6 0 ∷ get_or s 4 0 ∷ get_or s 1 0 ∷ get_or s 3 0 ∷ []) piece ≡ mirrored_supply (supply_in s) piece
 unfolding supply_in
-places_changed s piece = search rules
+codes_changed s piece = search rules

@@ -36,9 +36,9 @@ StacksOver supply E x y floor spans = Stacks (is_allowed y) (CanFill 8 supply) E
 
 -- spans of a piece can be stacked over the cell (x, y), and the supply fills what they leave
 pub record StacksPiece (supply : Supply) (E : Field) (x y : ℕ) (piece : Piece) : Type 0 where
-  pub place : ℕ
-  pub known : place < length (forms_of piece)
-  pub stacks : StacksOver supply E x y 0 (slice_index_or (forms_of piece) place [])
+  pub index : ℕ
+  pub known : index < length (forms_of piece)
+  pub stacks : StacksOver supply E x y 0 (slice_index_or (forms_of piece) index [])
 
 -- the supply has a piece of this kind, and its spans can be stacked so that the others fill what they leave
 pub record TakesPiece (supply : Supply) (E : Field) (x y : ℕ) (piece : Piece) : Type 0 where

@@ -103,8 +103,8 @@ impl Empties {
         if self.cells == 0 {
             return None;
         }
-        let place = self.cells.trailing_zeros() as u8;
-        Some((place / 8, place % 8))
+        let index = self.cells.trailing_zeros() as u8;
+        Some((index / 8, index % 8))
     }
 
     /// The set with its columns counted from column `x` on. Cells in the columns before it are dropped.

@@ -3,8 +3,8 @@
 
 mod columns;
 mod empties;
+mod hash;
 mod pivots;
-mod place;
 mod placed;
 mod rows;
 mod sent;
@@ -13,8 +13,8 @@ mod span;
 mod supply;
 
 pub use empties::Empties;
+pub use hash::hash_of;
 pub use pivots::Pivots;
-pub use place::hash_of;
 pub use rows::{allowed, has_row, lowest_row, without_row};
 pub use shifted::Shifted;
 pub use span::Span;

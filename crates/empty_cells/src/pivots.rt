@@ -1,7 +1,7 @@
 // Sets of placements of one piece, by their pivots.
 ghost use Rattle.std.specs.Prelude.{◌≡◌, ◌≤◌, ◌<◌, ◌+◌, ◌*◌, ◌/◌, ◌%◌, true, false, IsTrue};
 ghost use Rattle.srs.specs.declared.placement.Placement.{Placement};
-ghost use Rattle.srs.specs.Rotation.{rotation_place};
+ghost use Rattle.srs.specs.Rotation.{rotation_index};
 
 use srs::Placement;
 
@@ -12,16 +12,16 @@ pub struct Pivots {
     rotations: [u64; 8],
 }
 
-/// The word in which a placement has its bit, and the place of the bit there.
+/// The word in which a placement has its bit, and the bit's index there.
 #[inline(always)]
-fn place_of(placement: &Placement) -> (usize, u8)
+fn bit_of(placement: &Placement) -> (usize, u8)
     requires column { placement.now.x ≤ 15 }
     requires row { placement.now.y ≤ 7 }
-    ensures word { result.0 ≡ 2 * rotation_place placement.now.rotation + placement.now.y / 4 }
+    ensures word { result.0 ≡ 2 * rotation_index placement.now.rotation + placement.now.y / 4 }
     ensures within { result.0 < 8 }
     ensures bit { result.1 ≡ 16 * (placement.now.y % 4) + placement.now.x }
 {
-    let word = 2 * placement.rotation.place() + placement.y / 4;
+    let word = 2 * placement.rotation.index() + placement.y / 4;
     (usize::from(word), 16 * (placement.y % 4) + placement.x)
 }
 
@@ -40,7 +40,7 @@ impl Pivots {
     #[inline(always)]
     pub fn words(&self) -> [u64; 8]
         ensures { (q : Placement) → has_pivot self.now q
-            ≡ cells_of_words result (rotation_place q.rotation) q.x q.y }
+            ≡ cells_of_words result (rotation_index q.rotation) q.x q.y }
     {
         self.rotations
     }
@@ -55,7 +55,7 @@ impl Pivots {
         ensures only { (q : Placement) → q.piece ≡ placement.now.piece → IsTrue (has_pivot self.new q)
             → has_pivot self.old q ≡ false → q ≡ placement.now }
     {
-        let (word, bit) = place_of(placement);
+        let (word, bit) = bit_of(placement);
         self.rotations[word] |= 1 << bit;
     }
 }

@@ -8,7 +8,7 @@ use Rattle.srs.specs.declared.placement.Placement.{Placement}
 use Rattle.srs.specs.Kick.{Table}
 use Rattle.srs.specs.Order.{placement_cmp}
 use Rattle.srs.specs.Placements.{placements_of}
-use Rattle.srs.specs.Rotation.{rotation_place}
+use Rattle.srs.specs.Rotation.{rotation_index}
 use Rattle.srs.specs.Rising.{is_above}
 use Rattle.srs.proofs.CallerLemmas.{filter-false, filter-true}
 use Rattle.lane_board.specs.Words.{cells_of_words}
@@ -58,7 +58,7 @@ module _ (setup : Setup) (piece : Piece) (some : 1 ≤ setup.left) (supply : Sup
       (ap (λ E. without_placement E q) setup.emptied) (tiling_decided (all_but E) 8 (supply_of supply)))
 
   -- what leaves no tiling has nothing to do
-  pub dead_found : (words : List ℕ) → ((q : Placement) → q.piece ≡ piece → cells_of_words words (rotation_place q.rotation) q.x q.y ≡ true → leaves_tiling (empty_cells setup.empties) q (supply_of supply) ≡ false) →
+  pub dead_found : (words : List ℕ) → ((q : Placement) → q.piece ≡ piece → cells_of_words words (rotation_index q.rotation) q.x q.y ≡ true → leaves_tiling (empty_cells setup.empties) q (supply_of supply) ≡ false) →
       AreDead setup piece words
   dead_found words none = record {
     dead = λ q of_kind lockable below is.
@@ -72,7 +72,7 @@ module _ (setup : Setup) (piece : Piece) (some : 1 ≤ setup.left) (supply : Sup
 
 module _ (frame : Frame) (places : LowPlaces) (is : frame.places ≡ Some places) (words : List ℕ) (are : AreDead frame.setup (piece_of places) words) where
   abbrev is_dead : Placement → Bool
-  is_dead q = cells_of_words words (rotation_place q.rotation) q.x q.y
+  is_dead q = cells_of_words words (rotation_index q.rotation) q.x q.y
 
   nothing : (table : Table) (mode : DropMode) (prefix : List Placement) (q : Placement) → holds places q ≡ true → is_dead q ≡ true → entered (enter frame.setup.left) prefix (position_of table mode frame.setup) q ≡ []
   nothing table mode prefix q held none = search (rules, lockable-piece)

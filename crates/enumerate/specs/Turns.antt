@@ -3,7 +3,7 @@ use Rattle.std.specs.Prelude.{◌≡◌, ℕ, ◌+◌, true, false, Option, Some
 use Rattle.srs.specs.declared.piece.Piece.{Piece}
 use Rattle.srs.specs.declared.placement.Placement.{Placement}
 use Rattle.srs.specs.Kick.{Table}
-use Rattle.srs.specs.Rotation.{rotation_place}
+use Rattle.srs.specs.Rotation.{rotation_index}
 use Rattle.lane_board.specs.Words.{cells_of_words}
 use Rattle.moves.specs.declared.key.DropMode.{DropMode}
 use Rattle.place_sets.specs.declared.low_held.LowPlaces.{LowPlaces}
@@ -30,12 +30,12 @@ pub record EntersAs (setup : Setup) (q : Placement)
 pub record AreDead (setup : Setup) (piece : Piece) (pivots : List ℕ) : Type 0 where
   pub dead : (q : Placement) → q.piece ≡ piece →
       may_lock (filled setup.well) piece q ≡ true → is_below setup.rows q ≡ true →
-      cells_of_words pivots (rotation_place q.rotation) q.x q.y ≡ true → EntersAs setup q (λ table mode prefix. [])
+      cells_of_words pivots (rotation_index q.rotation) q.x q.y ≡ true → EntersAs setup q (λ table mode prefix. [])
 
 -- after places of which none has these pivots the position is live
 abbrev pub AreLiveBut : Setup → LowPlaces → List ℕ → Type 0
 AreLiveBut setup places pivots = (q : Placement) → holds places q ≡ true →
-    cells_of_words pivots (rotation_place q.rotation) q.x q.y ≡ false → LeadsOn setup q
+    cells_of_words pivots (rotation_index q.rotation) q.x q.y ≡ false → LeadsOn setup q
 
 -- the frame after a placement, at which nothing was tried
 pub record IsChild (setup : Setup) (q : Placement) (child : Frame) : Type 0 where

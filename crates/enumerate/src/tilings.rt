@@ -3,7 +3,7 @@ ghost use Rattle.std.specs.Prelude.{◌≡◌, ◌≤◌, ◌||◌, Contains, []
 ghost use Rattle.lane_board.specs.Words.{cells_of_words};
 ghost use Rattle.srs.specs.declared.placement.Placement.{Placement};
 ghost use Rattle.srs.specs.Placements.{placements_of};
-ghost use Rattle.srs.specs.Rotation.{rotation_place};
+ghost use Rattle.srs.specs.Rotation.{rotation_index};
 ghost use Rattle.well.specs.Well.{filled};
 ghost use Rattle.place_sets.specs.LowPlaces.{holds, piece_of};
 ghost use Rattle.prune.specs.Tiling.{supply_in, Tiling};
@@ -161,14 +161,14 @@ impl Tilings {
         requires inside { (q : Placement) → IsTrue (holds places q)
             → (q.piece ≡ answers.old.piece) × (q.x ≤ 9) × (q.y ≤ 7) }
         ensures dead { (q : Placement) → q.piece ≡ answers.old.piece
-            → cells_of_words result (rotation_place q.rotation) q.x q.y ≡ true
+            → cells_of_words result (rotation_index q.rotation) q.x q.y ≡ true
             → leaves_tiling (empty_cells answers.old.cells) q (supply_of answers.old.supply) ≡ false }
         ensures live { (q : Placement) → IsTrue (holds places q)
-            → cells_of_words result (rotation_place q.rotation) q.x q.y ≡ false
+            → cells_of_words result (rotation_index q.rotation) q.x q.y ≡ false
             → leaves_tiling (empty_cells answers.old.cells) q (supply_of answers.old.supply) ≡ true }
         ensures kept { (q : Placement) → q.piece ≡ answers.old.piece
             → IsTrue (has_pivot answers.old.dead q || has_pivot answers.old.live q)
-            → cells_of_words result (rotation_place q.rotation) q.x q.y ≡ false
+            → cells_of_words result (rotation_index q.rotation) q.x q.y ≡ false
             → leaves_tiling (empty_cells answers.old.cells) q (supply_of answers.old.supply) ≡ true }
     {
         self.answer(answers, places);
@@ -224,10 +224,10 @@ impl Tilings {
         requires inside { (q : Placement) → IsTrue (holds places.now q)
             → (q.piece ≡ piece) × (q.x ≤ 9) × (q.y ≤ 7) }
         ensures dead { (q : Placement) → q.piece ≡ piece
-            → cells_of_words result (rotation_place q.rotation) q.x q.y ≡ true
+            → cells_of_words result (rotation_index q.rotation) q.x q.y ≡ true
             → leaves_tiling (empty_cells cells.now) q (supply_of supply) ≡ false }
         ensures live { (q : Placement) → IsTrue (holds places.now q)
-            → cells_of_words result (rotation_place q.rotation) q.x q.y ≡ false
+            → cells_of_words result (rotation_index q.rotation) q.x q.y ≡ false
             → leaves_tiling (empty_cells cells.now) q (supply_of supply) ≡ true }
     {
         let Some(known) = self.answers(found, cells, supply, piece) else {

@@ -23,7 +23,7 @@ use Rattle.moves.proofs.CallerLemmas.{IsFreeState, step_is_finite, step_of-free,
 use Rattle.circular_buffer.specs.Buffer.{Buffer, buffer, keep_last}
 use Rattle.key_path.specs.declared.marks.Mark.{Mark}
 use Rattle.key_path.specs.declared.marks.Mark.TheVariants.{Unseen, Start, From}
-use Rattle.key_path.specs.KeyWords.{key_place}
+use Rattle.key_path.specs.KeyWords.{key_index}
 use Rattle.key_path.specs.LeastKeyWord.{IsLeastKeyWord}
 use Rattle.key_path.specs.Marks.{with_mark, is_unseen, Traces, new_state}
 use Rattle.key_path.proofs.WordLemmas.{not_earlier, not_after-front}
@@ -100,7 +100,7 @@ module _ (table : Table) (F : Field) (mode : DropMode) (target : Placement) wher
       subst (λ (s : Placement). s.piece ≡ target.piece) trying.at (found_free free trying.items (trying.x ∷ trying.front) trying.sought trying.x (trying.sought.among trying.x (Contains-here trying.x trying.front))).kind
 
   -- a key that leads to no new state
-  pub trying_same : is_free F (spawn_of target.piece) ≡ true → (marks : List Mark) (waiting : List Placement) (state : Placement) (n : ℕ) (key : Key) → key_place key ≡ n → new_state table F mode marks state key ≡ None → IsTrying table F mode target marks waiting state n → IsTrying table F mode target marks waiting state (n + 1)
+  pub trying_same : is_free F (spawn_of target.piece) ≡ true → (marks : List Mark) (waiting : List Placement) (state : Placement) (n : ℕ) (key : Key) → key_index key ≡ n → new_state table F mode marks state key ≡ None → IsTrying table F mode target marks waiting state n → IsTrying table F mode target marks waiting state (n + 1)
   trying_same free marks waiting state n key place none trying = record {
     items = trying.items;
     x = trying.x;
@@ -124,7 +124,7 @@ module _ (table : Table) (F : Field) (mode : DropMode) (target : Placement) wher
           (found.0, found.1, one_state found.0.state t (there.kind ∙ sym after.kind) (pivot_of_free F found.0.state there.free) (pivot_of_free F t after.free) found.2)
 
   -- a key that leads to a new state, which does not come to rest there
-  pub trying_new : is_free F (spawn_of target.piece) ≡ true → (marks marks' : List Mark) (waiting waiting' : List Placement) (state : Placement) (n : ℕ) (key : Key) (t : Placement) → key_place key ≡ n → new_state table F mode marks state key ≡ Some t →
+  pub trying_new : is_free F (spawn_of target.piece) ≡ true → (marks marks' : List Mark) (waiting waiting' : List Placement) (state : Placement) (n : ℕ) (key : Key) (t : Placement) → key_index key ≡ n → new_state table F mode marks state key ≡ Some t →
       comes_to_rest F target t ≡ false → marks' ≡ with_mark marks t (From state key) → waiting' ≡ waiting ++ t ∷ [] → IsTrying table F mode target marks waiting state n → IsTrying table F mode target marks' waiting' state (n + 1)
   trying_new free marks marks' waiting waiting' state n key t place found misses set waits trying =
       let new : IsNew table F mode marks state key t = new_is table F mode marks state key t found in
@@ -166,7 +166,7 @@ module _ (table : Table) (F : Field) (mode : DropMode) (target : Placement) wher
       search (rules, (new_is table F mode marks state key t found), (room_left marks trying.items t), (pivot_of_free F t), (step_of-free table F state key t), (length-append waiting (t ∷ [])), (length-map trying.front (λ (x : Item). x.state)))
 
   -- a key that leads to a new state which comes to rest there
-  pub new_reached : is_free F (spawn_of target.piece) ≡ true → (marks marks' : List Mark) (waiting : List Placement) (state : Placement) (n : ℕ) (key : Key) (t : Placement) → key_place key ≡ n → new_state table F mode marks state key ≡ Some t →
+  pub new_reached : is_free F (spawn_of target.piece) ≡ true → (marks marks' : List Mark) (waiting : List Placement) (state : Placement) (n : ℕ) (key : Key) (t : Placement) → key_index key ≡ n → new_state table F mode marks state key ≡ Some t →
       comes_to_rest F target t ≡ true → marks' ≡ with_mark marks t (From state key) → IsTrying table F mode target marks waiting state n → LeadsBack table F mode target marks' t
   new_reached free marks marks' waiting state n key t place found rests set trying = subst (λ marks. LeadsBack table F mode target marks t) (sym (set ∙ ap (λ s. with_mark marks t (From s key)) (sym trying.at))) reached
     where
@@ -182,7 +182,7 @@ module _ (table : Table) (F : Field) (mode : DropMode) (target : Placement) wher
       moves : step_of table F trying.x.state key ≡ Some t
       moves = subst (λ s. step_of table F s key ≡ Some t) (sym trying.at) new.moves
 
-      pressed : IsPressed (step_of table F) (allows mode) (spawn_of target.piece) trying.items trying.x (key_place key)
+      pressed : IsPressed (step_of table F) (allows mode) (spawn_of target.piece) trying.items trying.x (key_index key)
       pressed = subst (IsPressed (step_of table F) (allows mode) (spawn_of target.piece) trying.items trying.x) (sym place) trying.pressed
 
       leads : Leads (step_of table F) (allows mode) (Some (spawn_of target.piece)) t word

@@ -22,7 +22,7 @@ use Rattle.moves.proofs.CallerLemmas.{IsFreeState, leads_to_rest-decides, from_t
 use Rattle.moves.specs.States.{state_code}
 use Rattle.key_path.specs.KeyWords.{key_cmp, key_word_cmp, key_words_of, key_words_below}
 use Rattle.key_path.specs.LeastKeyWord.{IsLeastKeyWord, least_key_word}
-use Rattle.key_path.proofs.WordLemmas.{key_place-small, shorter_before, not_both, more_first, first_key, word_cmp-total, word_cmp-antisymmetric}
+use Rattle.key_path.proofs.WordLemmas.{key_index-small, shorter_before, not_both, more_first, first_key, word_cmp-total, word_cmp-antisymmetric}
 
 -- where a key word leads there, so does one with fewer keys than there are states
 pub few_keys : (table : Table) (F : Field) (mode : DropMode) (target : Placement) (word : List Key) → LeadsToRest table F mode word target →
@@ -50,7 +50,7 @@ has_length (suc n) word among =
     sym (ap (λ (w : List Key). length w) rest.2) ∙ ap suc (has_length n rest.0 rest.1)
 
 among_keys : (key : Key) → Contains all_keys key
-among_keys key = search (rules, (key_place-small key))
+among_keys key = search (rules, (key_index-small key))
 
 has_word : (word : List Key) → Contains (key_words_of (length word)) word
 unfolding key_words_of

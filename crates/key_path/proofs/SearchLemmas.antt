@@ -12,9 +12,9 @@ use Rattle.srs.proofs.CallerLemmas.{Contains-here, Contains-there, Contains-case
 use Rattle.moves.specs.declared.key.Key.{Key}
 use Rattle.moves.specs.Walk.{led, Leads}
 use Rattle.moves.proofs.CallerLemmas.{not_some, led_none}
-use Rattle.key_path.specs.KeyWords.{key_place, key_word_cmp, NotAfter}
+use Rattle.key_path.specs.KeyWords.{key_index, key_word_cmp, NotAfter}
 use Rattle.key_path.specs.Search.{Item, item_cmp, HasBy, with_key, IsClosed, AreFound, IsAhead, IsPressed}
-use Rattle.key_path.proofs.WordLemmas.{key_place-injective, not_after-itself, not_after-trans, not_after-before, before_not_after, shorter_before, not_after-front, more_before, key_before, more_not_after, key_place-small}
+use Rattle.key_path.proofs.WordLemmas.{key_index-injective, not_after-itself, not_after-trans, not_after-before, before_not_after, shorter_before, not_after-front, more_before, key_before, more_not_after, key_index-small}
 
 pub has_more : (items : List Item) (new : Item) (state : Placement) (word : List Key) → HasBy items state word → HasBy (items ++ new ∷ []) state word
 has_more items new state word has = record { item = has.item; among = Contains-append_left items (new ∷ []) has.item has.among; is = has.is; in_time = has.in_time }
@@ -39,11 +39,11 @@ module _ (next : Placement → Key → Option Placement) (allowed : Key → Bool
   taken items x waiting ahead = search (rules, (ahead.ahead x), (Contains-here x waiting), (not_after-before x.word), (not_after-itself x.word))
 
   -- a key that is not allowed, or leads to nothing new
-  pub pressed_again : (items : List Item) (x : Item) (n : ℕ) (key : Key) → key_place key ≡ n →
+  pub pressed_again : (items : List Item) (x : Item) (n : ℕ) (key : Key) → key_index key ≡ n →
       ((t : Placement) → allowed key ≡ true → next x.state key ≡ Some t → (y : Item) × Contains items y × (y.state ≡ t)) → IsPressed next allowed start items x n → IsPressed next allowed start items x (n + 1)
   pressed_again items x n key place known pressed = record {
-    tried = λ other t below may e. elim (cases_order (key_place other) n) [
-      | inl same ↦ let one : other ≡ key = key_place-injective other key (same ∙ sym place) in
+    tried = λ other t below may e. elim (cases_order (key_index other) n) [
+      | inl same ↦ let one : other ≡ key = key_index-injective other key (same ∙ sym place) in
           let found = known t (subst (λ k. allowed k ≡ true) one may) (subst (λ k. next x.state k ≡ Some t) one e) in
           record { item = found.0; among = found.1; is = found.2; in_time = not_after-before found.0.word (x.word ++ other ∷ []) (pressed.ahead found.0 x.word other found.1 (inr (refl, omega (arith, same)))) }
       | inr apart ↦ elim apart [ inl less ↦ pressed.tried other t less may e | inr more ↦ absurd (omega (arith, below, more)) ]
@@ -52,10 +52,10 @@ module _ (next : Placement → Key → Option Placement) (allowed : Key → Bool
   }
 
   -- a key that leads to a new state
-  pub pressed_new : (items : List Item) (x : Item) (n : ℕ) (key : Key) (t : Placement) → key_place key ≡ n → next x.state key ≡ Some t → IsPressed next allowed start items x n → IsPressed next allowed start (items ++ with_key x key t ∷ []) x (n + 1)
+  pub pressed_new : (items : List Item) (x : Item) (n : ℕ) (key : Key) (t : Placement) → key_index key ≡ n → next x.state key ≡ Some t → IsPressed next allowed start items x n → IsPressed next allowed start (items ++ with_key x key t ∷ []) x (n + 1)
   pressed_new items x n key t place e pressed = record {
-    tried = λ other u below may f. elim (cases_order (key_place other) n) [
-      | inl same ↦ let one : key ≡ other = key_place-injective key other (place ∙ sym same) in
+    tried = λ other u below may f. elim (cases_order (key_index other) n) [
+      | inl same ↦ let one : key ≡ other = key_index-injective key other (place ∙ sym same) in
           record { item = with_key x key t; among = Contains-push items (with_key x key t); is = some_same (sym e ∙ ap (next x.state) one ∙ f); in_time = subst (λ k. NotAfter (x.word ++ key ∷ []) (x.word ++ k ∷ [])) one (not_after-itself (x.word ++ key ∷ [])) }
       | inr apart ↦ elim apart [ inl less ↦ has_more items (with_key x key t) u _ (pressed.tried other u less may f) | inr more ↦ absurd (omega (arith, below, more)) ]
     ];
@@ -83,7 +83,7 @@ module _ (next : Placement → Key → Option Placement) (allowed : Key → Bool
       all_more (k ∷ word) each = let parts = and_parts (allowed k) (list_all allowed word) each in and_from _ _ parts.0 (all_more word parts.1)
 
   -- the new item waits last
-  pub sought_new : (items : List Item) (x : Item) (waiting : List Item) (n : ℕ) (key : Key) (t : Placement) → key_place key ≡ n → allowed key ≡ true → next x.state key ≡ Some t →
+  pub sought_new : (items : List Item) (x : Item) (waiting : List Item) (n : ℕ) (key : Key) (t : Placement) → key_index key ≡ n → allowed key ≡ true → next x.state key ≡ Some t →
       Contains items x → AreFound next allowed start items (x ∷ waiting) → IsPressed next allowed start items x n → AreFound next allowed start (items ++ with_key x key t ∷ []) (x ∷ (waiting ++ with_key x key t ∷ []))
   sought_new items x waiting n key t place may e here sought pressed = record {
     reached = λ y among. elim (Contains-push_cases items (with_key x key t) y among) [
@@ -110,7 +110,7 @@ module _ (next : Placement → Key → Option Placement) (allowed : Key → Bool
   }
 
   all_tried : (items : List Item) (x : Item) → IsPressed next allowed start items x 5 → IsClosed next allowed start items x
-  all_tried items x pressed = record { each = λ key t may e. pressed.tried key t (key_place-small key) may e }
+  all_tried items x pressed = record { each = λ key t may e. pressed.tried key t (key_index-small key) may e }
 
   -- where all keys of the first that waits were tried, the next is to be taken
   pub sought_next : (items : List Item) (x : Item) (waiting : List Item) → AreFound next allowed start items (x ∷ waiting) → IsPressed next allowed start items x 5 → AreFound next allowed start items waiting
@@ -156,14 +156,14 @@ module _ (next : Placement → Key → Option Placement) (allowed : Key → Bool
       step x u key t among not may e = search (rules, sought.each, (closed_step items), Contains-none)
 
   -- while keys are tried, so was each state to which a key word before the one that is tried leads
-  pub found_before : (items : List Item) (x : Item) (waiting : List Item) (key : Key) → AreFound next allowed start items (x ∷ waiting) → IsPressed next allowed start items x (key_place key) →
+  pub found_before : (items : List Item) (x : Item) (waiting : List Item) (key : Key) → AreFound next allowed start items (x ∷ waiting) → IsPressed next allowed start items x (key_index key) →
       (v : List Key) (s : Placement) → Leads next allowed (Some start) s v → HasBy items s v ⊎ NotAfter (x.word ++ key ∷ []) v
   found_before items x waiting key sought pressed v s leads =
       from_start items (NotAfter (x.word ++ key ∷ [])) (λ u v past. not_after-trans (x.word ++ key ∷ []) u (u ++ v) past (not_after-front u v)) sought.begins step v s leads
     where
-      later_key : (u : List Key) (other : Key) → NotAfter x.word u → key_place key ≤ key_place other → NotAfter (x.word ++ key ∷ []) (u ++ other ∷ [])
-      later_key u other not later = elim (cases_order (key_place key) (key_place other)) [
-        | inl same ↦ subst (λ k. NotAfter (x.word ++ key ∷ []) (u ++ k ∷ [])) (key_place-injective key other same) (more_not_after x.word u key not)
+      later_key : (u : List Key) (other : Key) → NotAfter x.word u → key_index key ≤ key_index other → NotAfter (x.word ++ key ∷ []) (u ++ other ∷ [])
+      later_key u other not later = elim (cases_order (key_index key) (key_index other)) [
+        | inl same ↦ subst (λ k. NotAfter (x.word ++ key ∷ []) (u ++ k ∷ [])) (key_index-injective key other same) (more_not_after x.word u key not)
         | inr apart ↦ elim apart [
           | inl less ↦ not_after-trans (x.word ++ key ∷ []) (x.word ++ other ∷ []) (u ++ other ∷ [])
               (not_after-before (x.word ++ key ∷ []) (x.word ++ other ∷ []) (key_before x.word key other less)) (more_not_after x.word u other not)
@@ -172,7 +172,7 @@ module _ (next : Placement → Key → Option Placement) (allowed : Key → Bool
       ]
 
       first_step : (u : List Key) (other : Key) (t : Placement) → NotAfter x.word u → allowed other ≡ true → next x.state other ≡ Some t → HasBy items t (u ++ other ∷ []) ⊎ NotAfter (x.word ++ key ∷ []) (u ++ other ∷ [])
-      first_step u other t not may e = elim (cases_lt (key_place other) (key_place key)) [
+      first_step u other t not may e = elim (cases_lt (key_index other) (key_index key)) [
         | inl tried ↦ inl (has_later items t (x.word ++ other ∷ []) (u ++ other ∷ []) (more_not_after x.word u other not) (pressed.tried other t tried may e))
         | inr later ↦ inr (later_key u other not later)
       ]

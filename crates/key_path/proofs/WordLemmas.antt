@@ -14,29 +14,29 @@ use Rattle.srs.proofs.CallerLemmas.{below_is_less, then_second}
 use Rattle.moves.specs.declared.key.Key.{Key}
 use Rattle.moves.specs.declared.key.Key.TheVariants.{Left}
 use Rattle.moves.specs.Keys.{all_keys}
-use Rattle.key_path.specs.KeyWords.{key_place, key_cmp, key_word_cmp, NotAfter}
+use Rattle.key_path.specs.KeyWords.{key_index, key_cmp, key_word_cmp, NotAfter}
 
--- the key at a place
+-- the key with an index
 abbrev pub key_at : ℕ → Key
-key_at place = slice_index_or all_keys place Left
+key_at index = slice_index_or all_keys index Left
 
-pub key_at-place : (key : Key) → key_at (key_place key) ≡ key
-key_at-place key = search rules
+pub key_at-index : (key : Key) → key_at (key_index key) ≡ key
+key_at-index key = search rules
 
-pub key_place-injective : (key other : Key) → key_place key ≡ key_place other → key ≡ other
-key_place-injective key other e = sym (key_at-place key) ∙ ap key_at e ∙ key_at-place other
+pub key_index-injective : (key other : Key) → key_index key ≡ key_index other → key ≡ other
+key_index-injective key other e = sym (key_at-index key) ∙ ap key_at e ∙ key_at-index other
 
-pub key_place-small : (key : Key) → key_place key < 5
-key_place-small key = search rules
+pub key_index-small : (key : Key) → key_index key < 5
+key_index-small key = search rules
 
-pub key_place-at : (place : ℕ) → place < 5 → key_place (key_at place) ≡ place
-key_place-at place below = search rules
+pub key_index-at : (index : ℕ) → index < 5 → key_index (key_at index) ≡ index
+key_index-at index below = search rules
 
 key_cmp-total : IsTotalOrder key_cmp
-key_cmp-total = on_total key_place nat_cmp_total
+key_cmp-total = on_total key_index nat_cmp_total
 
 key_cmp-antisymmetric : IsAntisymmetric key_cmp
-key_cmp-antisymmetric key other e = key_place-injective key other (nat_cmp-IsAntisymmetric _ _ e)
+key_cmp-antisymmetric key other e = key_index-injective key other (nat_cmp-IsAntisymmetric _ _ e)
 
 pub word_cmp-total : IsTotalOrder key_word_cmp
 word_cmp-total = then_total (on_total (λ (word : List Key). length word) nat_cmp_total) (lists_total key_cmp-total)
@@ -99,7 +99,7 @@ pub more_before : (v w : List Key) (key other : Key) → key_word_cmp v w ≡ Le
 more_before v w key other less = search (rules, before_cases, shorter_before, length-append, as_long, first_difference)
 
 -- an earlier key makes of one key word the lesser one
-pub key_before : (v : List Key) (key other : Key) → key_place key < key_place other → key_word_cmp (v ++ key ∷ []) (v ++ other ∷ []) ≡ Less
+pub key_before : (v : List Key) (key other : Key) → key_index key < key_index other → key_word_cmp (v ++ key ∷ []) (v ++ other ∷ []) ≡ Less
 key_before v key other less = search (rules, as_long, length-append, same_front, below_is_less)
 
 -- the same key makes of a key word that is not after another one no later one

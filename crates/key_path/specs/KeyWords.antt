@@ -8,16 +8,16 @@ use Rattle.moves.specs.declared.key.Key.{Key}
 use Rattle.moves.specs.declared.key.Key.TheVariants.{Left, Right, Down, Clockwise, Anti}
 use Rattle.moves.specs.Keys.{all_keys}
 
--- the place of a key in the order L, R, D, C, A
-abbrev pub key_place : Key → ℕ
-key_place Left = 0
-key_place Right = 1
-key_place Down = 2
-key_place Clockwise = 3
-key_place Anti = 4
+-- the index of a key in the order L, R, D, C, A
+abbrev pub key_index : Key → ℕ
+key_index Left = 0
+key_index Right = 1
+key_index Down = 2
+key_index Clockwise = 3
+key_index Anti = 4
 
 abbrev pub key_cmp : Key → Key → Ordering
-key_cmp key other = nat_cmp (key_place key) (key_place other)
+key_cmp key other = nat_cmp (key_index key) (key_index other)
 
 -- by length, then key by key, the first difference deciding
 abbrev pub key_word_cmp : List Key → List Key → Ordering

@@ -16,7 +16,7 @@ use Rattle.moves.specs.States.{state_code}
 use Rattle.moves.specs.Step.{step_of}
 use Rattle.moves.specs.Walk.{Leads}
 use Rattle.key_path.specs.declared.marks.Mark.{Mark}
-use Rattle.key_path.specs.KeyWords.{key_place, key_word_cmp, NotAfter}
+use Rattle.key_path.specs.KeyWords.{key_index, key_word_cmp, NotAfter}
 use Rattle.key_path.specs.LeastKeyWord.{IsLeastKeyWord}
 use Rattle.key_path.specs.Marks.{mark_at, is_unseen, Traces, Traced}
 
@@ -61,10 +61,10 @@ module _ (next : Placement → Key → Option Placement) (allowed : Key → Bool
 
   -- the same where the first keys of an item were tried
   pub record IsPressed (items : List Item) (x : Item) (n : ℕ) : Type 0 where
-    pub tried : (key : Key) (t : Placement) → key_place key < n → allowed key ≡ true → next x.state key ≡ Some t
+    pub tried : (key : Key) (t : Placement) → key_index key < n → allowed key ≡ true → next x.state key ≡ Some t
         → HasBy items t (x.word ++ key ∷ [])
     pub ahead : (y : Item) (word : List Key) (key : Key) → Contains items y
-        → (key_word_cmp x.word word ≡ Less) ⊎ ((x.word ≡ word) × (n ≤ key_place key))
+        → (key_word_cmp x.word word ≡ Less) ⊎ ((x.word ≡ word) × (n ≤ key_index key))
         → key_word_cmp y.word (word ++ key ∷ []) ≡ Less
 
 -- each item is marked by the keys of its key word, each mark is that of an item, and there are as many marks as items

@@ -18,7 +18,7 @@ pub(crate) fn rests_on(well: &Well, aim: &Placement, state: &Placement) -> bool
 {
     // A fall changes only the row, so few states have to fall.
     let above = canonical(state);
-    if above.rotation.place() != aim.rotation.place() || above.x != aim.x {
+    if above.rotation.index() != aim.rotation.index() || above.x != aim.x {
         return false;
     }
     canonical(&fall(well, state)).y == aim.y

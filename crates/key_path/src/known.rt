@@ -71,7 +71,7 @@ fn is_same_well(well: &Well, other: &Well) -> bool
 /// A number that differs for most questions.
 fn hash_of(well: &Well, target: &Placement) -> u64 {
     let board = well.board();
-    let [piece, rotation] = [target.piece.code(), target.rotation.place()];
+    let [piece, rotation] = [target.piece.code(), target.rotation.index()];
     let mut mixed = u64::from(u32::from_le_bytes([piece, rotation, target.x, target.y]));
     for y in 0..8 {
         mixed = (mixed ^ u64::from(board.row(y))).wrapping_mul(0x9e37_79b9_7f4a_7c15);

@@ -86,5 +86,5 @@ fn code(state: &Placement) -> usize
     requires { IsPivot state.now }
     ensures { result ≡ state_code state.now }
 {
-    usize::from(state.rotation.place()) * 230 + (usize::from(state.y) * 10 + usize::from(state.x))
+    usize::from(state.rotation.index()) * 230 + (usize::from(state.y) * 10 + usize::from(state.x))
 }

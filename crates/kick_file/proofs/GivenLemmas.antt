@@ -7,22 +7,22 @@ use Rattle.std.proofs.lemmas.List.{length-map}
 use Rattle.std.proofs.lemmas.List.Folds.{list_any-append}
 use Rattle.std.proofs.lemmas.Map.Steps.{length-le_from_distinct_below}
 use Rattle.srs.specs.Piece.{piece_code}
-use Rattle.srs.specs.Rotation.{rotation_place}
+use Rattle.srs.specs.Rotation.{rotation_index}
 use Rattle.kick_file.specs.declared.turned.TurnedPiece.{TurnedPiece}
 use Rattle.kick_file.specs.Form.{is_same, is_repeated, are_distinct}
-use Rattle.srs.proofs.CallerLemmas.{piece_code-some, piece_code-small, rotation_place-small}
+use Rattle.srs.proofs.CallerLemmas.{piece_code-some, piece_code-small, rotation_index-small}
 
 -- the number of a piece in a rotation, from 0 to 27
 number_of : TurnedPiece → ℕ
-number_of turned = 4 * (piece_code turned.piece - 1) + rotation_place turned.rotation
+number_of turned = 4 * (piece_code turned.piece - 1) + rotation_index turned.rotation
 
 number_of-within : (turned : TurnedPiece) → number_of turned < 28
 unfolding number_of
-number_of-within turned = search (rules, piece_code-some, piece_code-small, rotation_place-small)
+number_of-within turned = search (rules, piece_code-some, piece_code-small, rotation_index-small)
 
 is_same-number : (one other : TurnedPiece) → is_same one other ≡ eqb (number_of one) (number_of other)
 unfolding number_of
-is_same-number one other = search (rules, nat_tests, piece_code-some, rotation_place-small)
+is_same-number one other = search (rules, nat_tests, piece_code-some, rotation_index-small)
 
 pub is_same-symmetric : (one other : TurnedPiece) → is_same one other ≡ is_same other one
 is_same-symmetric one other = search (rules, is_same-number, number_of, nat_tests)

@@ -4,7 +4,7 @@ use Rattle.std.specs.List.{list_all, list_any, join_with_byte}
 use Rattle.srs.specs.Cells.{Cell}
 use Rattle.srs.specs.Kick.{Table, srs_table, is_small_move}
 use Rattle.srs.specs.Piece.{piece_code, piece_with_letter}
-use Rattle.srs.specs.Rotation.{rotation_place, rotation_letter}
+use Rattle.srs.specs.Rotation.{rotation_index, rotation_letter}
 use Rattle.kick_file.specs.declared.turned.TurnedPiece.{TurnedPiece}
 
 -- a number of an offset, which is small, is its digit, after `-` where it is below 0
@@ -45,7 +45,7 @@ SpellsEntries text (entry ∷ next ∷ entries) =
 -- whether two are the same piece in the same rotation
 abbrev pub is_same : TurnedPiece → TurnedPiece → Bool
 is_same one other =
-    piece_code one.piece == piece_code other.piece && rotation_place one.rotation == rotation_place other.rotation
+    piece_code one.piece == piece_code other.piece && rotation_index one.rotation == rotation_index other.rotation
 
 -- the pieces and rotations of entries
 abbrev pub turned_of : List Entry → List TurnedPiece

@@ -16,6 +16,6 @@ impl TurnedPiece {
     pub fn is_same(self, other: TurnedPiece) -> bool
         ensures { result ≡ is_same self other }
     {
-        self.piece.code() == other.piece.code() && self.rotation.place() == other.rotation.place()
+        self.piece.code() == other.piece.code() && self.rotation.index() == other.rotation.index()
     }
 }

@@ -9,7 +9,7 @@ use Rattle.srs.specs.declared.rotation.Rotation.{Rotation}
 use Rattle.srs.specs.declared.rotation.Rotation.TheVariants.{Spawn, Right, Reverse, Left}
 use Rattle.srs.specs.Canonical.{canonical_rotation}
 use Rattle.srs.specs.Rotation.{clockwise_of, anticlockwise_of}
-use Rattle.srs.proofs.CallerLemmas.{rotation_place-injective}
+use Rattle.srs.proofs.CallerLemmas.{rotation_index-injective}
 use Rattle.place_sets.specs.declared.spreading.Shifts.TheVariants as Shift
 use Rattle.low_flood.specs.LaneFlood.{Lanes, IsLanesClosed}
 use Rattle.low_flood.specs.LaneTurns.{arrivals}
@@ -74,7 +74,7 @@ grows_same S T e = record { each = λ r. record { has = λ x y held. ap (λ (U :
 -- what changes in one rotation, and elsewhere not
 pub in_rotation : (P : Rotation → Field → Type 0) (S : Lanes) (to : Rotation) (B : Field) → P to B → ((r : Rotation) → P r (S r)) → (r : Rotation) → P r (states_with S to B r)
 in_rotation P S to B here others r =
-    search (rules, cases_Bool, rotation_place-injective, eqb-true, with_here, with_other)
+    search (rules, cases_Bool, rotation_index-injective, eqb-true, with_here, with_other)
 
 pub turned_grows : (piece : Piece) (N : ℕ) (free : Lanes) (to : Rotation) (S T : Lanes) → IsTurnedInto piece N free to S T → Grows S T
 unfolding union
@@ -209,7 +209,7 @@ pub record IsPlaceOf (piece : Piece) (S : Lanes) (c : Rotation) (x y : ℕ) : Ty
 with_rotation-from : (piece : Piece) (S : Lanes) (c r : Rotation) (B : Field) (x y : ℕ) → with_rotation piece S c r B x y ≡ true → (B x y ≡ true) ⊎ IsPlaceOf piece S c x y
 unfolding with_rotation union
 with_rotation-from piece S c r B x y held =
-    search (rules, cases_Bool, or_cases, cond-true, rotation_place-injective, eqb-true, cond-false)
+    search (rules, cases_Bool, or_cases, cond-true, rotation_index-injective, eqb-true, cond-false)
 
 with_rotation-keeps : (piece : Piece) (S : Lanes) (c r : Rotation) (B : Field) (x y : ℕ) → B x y ≡ true → with_rotation piece S c r B x y ≡ true
 unfolding with_rotation union

@@ -13,9 +13,9 @@ use Rattle.srs.specs.declared.placement.Placement.{Placement}
 use Rattle.srs.specs.Canonical.{IsCanonical, canonical_rotation, canonical_move}
 use Rattle.srs.specs.Cells.{Cell, moved, shape, pivot_of}
 use Rattle.srs.specs.Kick.{srs_table, kicks_of}
-use Rattle.srs.specs.Rotation.{rotation_place, clockwise_of, anticlockwise_of}
+use Rattle.srs.specs.Rotation.{rotation_index, clockwise_of, anticlockwise_of}
 use Rattle.srs.specs.SameCells.{HasSameCells}
-use Rattle.srs.proofs.CallerLemmas.{IsCanonical-from_test, is_canonical-from, canonical_pivot, canonical_unique, found_cells, found_canonical, same_cells-piece, same_cells-sym, same_cells-trans, rotation_place-injective, each_state}
+use Rattle.srs.proofs.CallerLemmas.{IsCanonical-from_test, is_canonical-from, canonical_pivot, canonical_unique, found_cells, found_canonical, same_cells-piece, same_cells-sym, same_cells-trans, rotation_index-injective, each_state}
 use Rattle.well.specs.Free.{is_free}
 use Rattle.well.proofs.CallerLemmas.{free_inside}
 use Rattle.moves.specs.declared.key.Key.TheVariants.{Clockwise, Anti}
@@ -45,11 +45,11 @@ pub many_rows : (n : ℕ) → IsTrue (is_lane_count n) → 8 ≤ n
 many_rows n is = leb-true 8 n (and_parts (nat_le 8 n) (nat_le n 32) (and_parts (n % 8 == 0) _ is).1).0
 
 -- a rotation with cells of its own is canonical
-own_test : (p : Piece) (r : Rotation) → (not (has_own_cells p r) || rotation_place (canonical_rotation p r) == rotation_place r) ≡ true
-own_test = each_state (λ p r. not (has_own_cells p r) || rotation_place (canonical_rotation p r) == rotation_place r) refl
+own_test : (p : Piece) (r : Rotation) → (not (has_own_cells p r) || rotation_index (canonical_rotation p r) == rotation_index r) ≡ true
+own_test = each_state (λ p r. not (has_own_cells p r) || rotation_index (canonical_rotation p r) == rotation_index r) refl
 
 pub own_canonical : (p : Piece) (r : Rotation) → has_own_cells p r ≡ true → canonical_rotation p r ≡ r
-own_canonical p r own = rotation_place-injective _ r (eqb-true _ _ (subst (λ b. (not b || rotation_place (canonical_rotation p r) == rotation_place r) ≡ true) own (own_test p r)))
+own_canonical p r own = rotation_index-injective _ r (eqb-true _ _ (subst (λ b. (not b || rotation_index (canonical_rotation p r) == rotation_index r) ≡ true) own (own_test p r)))
 
 back_clockwise : (r : Rotation) → clockwise_of (anticlockwise_of r) ≡ r
 back_clockwise r = search rules

@@ -5,7 +5,7 @@ use Rattle.srs.specs.declared.piece.Piece.{Piece}
 use Rattle.srs.specs.declared.rotation.Rotation.{Rotation}
 use Rattle.srs.specs.Canonical.{rotation_count}
 use Rattle.srs.specs.Cells.{shape}
-use Rattle.srs.specs.Rotation.{rotation_place}
+use Rattle.srs.specs.Rotation.{rotation_index}
 use Rattle.moves.specs.Lanes.{lowest}
 use Rattle.place_sets.specs.States.{States}
 use Rattle.low_flood.specs.LaneMap.{free_lanes, resting_lanes}
@@ -18,7 +18,7 @@ lane_pivots piece rotation S = moved_within (intersection S (rows_below 24)) 24 
 
 -- whether the placements of a rotation are canonical
 abbrev pub has_own_cells : Piece → Rotation → Bool
-has_own_cells piece rotation = nat_lt (rotation_place rotation) (rotation_count piece)
+has_own_cells piece rotation = nat_lt (rotation_index rotation) (rotation_count piece)
 
 -- the canonical placements in a rotation that rest under an open sky
 unfoldable pub hard_board : Piece → ℕ → Field → Rotation → Field

@@ -5,7 +5,7 @@ use Rattle.srs.specs.declared.piece.Piece.{Piece}
 use Rattle.srs.specs.declared.rotation.Rotation.{Rotation}
 use Rattle.srs.specs.declared.rotation.Rotation.TheVariants.{Spawn, Right, Reverse, Left}
 use Rattle.srs.specs.Canonical.{canonical_rotation}
-use Rattle.srs.specs.Rotation.{rotation_place, clockwise_of, anticlockwise_of}
+use Rattle.srs.specs.Rotation.{rotation_index, clockwise_of, anticlockwise_of}
 use Rattle.place_sets.specs.declared.spreading.Shifts.TheVariants.{All}
 use Rattle.low_flood.specs.LaneFlood.{Lanes}
 use Rattle.low_flood.specs.LaneMap.{free_lanes, resting_lanes}
@@ -26,7 +26,7 @@ skies piece N free rotation = sky_board piece (canonical_rotation piece rotation
 -- the places, and those of a rotation whose canonical one is given
 unfoldable pub with_rotation : Piece → Lanes → Rotation → Rotation → Field → Field
 with_rotation piece S canonical rotation B =
-    if rotation_place (canonical_rotation piece rotation) == rotation_place canonical then union B (S rotation) else B
+    if rotation_index (canonical_rotation piece rotation) == rotation_index canonical then union B (S rotation) else B
 
 -- the places of all rotations whose canonical one is given
 unfoldable pub places_of : Piece → Lanes → Rotation → Field

@@ -209,7 +209,7 @@ fn with_rotation<const N: usize>(
 ) -> LaneBoard<N>
     ensures { field_of result ≡ with_rotation piece (states_of places.now) canonical rotation (field_of board.now) }
 {
-    if canonical_of(piece, rotation).place() != canonical.place() {
+    if canonical_of(piece, rotation).index() != canonical.index() {
         return *board;
     }
     board.or(places.board(rotation))

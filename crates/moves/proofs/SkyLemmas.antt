@@ -13,7 +13,7 @@ use Rattle.srs.specs.declared.placement.Placement.{Placement}
 use Rattle.srs.specs.Cells.{Cell, minus, moved, shape, cells_of, pivot_of}
 use Rattle.srs.specs.SameCells.{is_among}
 use Rattle.srs.specs.Kick.{Table, srs_table}
-use Rattle.srs.proofs.CallerLemmas.{is_among-moved, is_among-all, list_all-from_is_among, each_piece, rotation_place-injective, in_well-place, inside_cell, pivot_inside, int_le-true, less-moved}
+use Rattle.srs.proofs.CallerLemmas.{is_among-moved, is_among-all, list_all-from_is_among, each_piece, rotation_index-injective, in_well-place, inside_cell, pivot_inside, int_le-true, less-moved}
 use Rattle.std.specs.Cmp.{signed_Decides}
 use Rattle.std.specs.Ordering.{int_eq}
 use Rattle.well.specs.Free.{is_open, is_free_at, is_free}
@@ -30,7 +30,7 @@ use Rattle.moves.proofs.OpenLemmas.{IsOpenHeight, open_height, open_free, free_f
 
 -- the path leads where the piece fits
 path_is : (piece : Piece) (rotation : Rotation) (x : ℕ) → x < 10 → fits_column piece rotation (pos x) ≡ true → open_led piece (Some (Turn.Spawn, 4)) (path piece rotation x) ≡ Some (rotation, x)
-path_is piece rotation x within fits = search (rules, (paths_lead piece rotation x within), false≢true, and_parts, rotation_place-injective, eqb-true)
+path_is piece rotation x within fits = search (rules, (paths_lead piece rotation x within), false≢true, and_parts, rotation_index-injective, eqb-true)
 
 pub rise_spawn : (piece : Piece) → rise piece Turn.Spawn ≡ pos 0
 rise_spawn piece = (signed_Decides (rise piece Turn.Spawn) (pos 0)).0 (each_piece (λ p. int_eq (rise p Turn.Spawn) (pos 0)) refl piece)

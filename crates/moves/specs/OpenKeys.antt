@@ -6,7 +6,7 @@ use Rattle.srs.specs.declared.rotation.Rotation.{Rotation}
 use Rattle.srs.specs.declared.rotation.Rotation.TheVariants as Turn
 use Rattle.srs.specs.Cells.{Cell, minus}
 use Rattle.srs.specs.Kick.{srs_table, kicks_of}
-use Rattle.srs.specs.Rotation.{clockwise_of, anticlockwise_of, rotation_place}
+use Rattle.srs.specs.Rotation.{clockwise_of, anticlockwise_of, rotation_index}
 use Rattle.moves.specs.declared.key.Key.{Key}
 use Rattle.moves.specs.declared.key.Key.TheVariants.{Left, Right, Down, Clockwise, Anti}
 use Rattle.moves.specs.Height.{rise, fits_column}
@@ -76,7 +76,7 @@ path piece rotation x = turns_to rotation ++ sideways_to
 
 abbrev pub is_spot : Rotation → ℕ → Option Spot → Bool
 is_spot rotation x None = false
-is_spot rotation x (Some spot) = rotation_place spot.0 == rotation_place rotation && spot.1 == x
+is_spot rotation x (Some spot) = rotation_index spot.0 == rotation_index rotation && spot.1 == x
 
 -- the keys lead there
 abbrev pub path_leads : Piece → Rotation → ℕ → Bool

@@ -1,7 +1,7 @@
 -- The states whose pivot lies in the well, and a number for each of those of one piece.
 use Rattle.std.specs.Prelude.{ℕ, ◌+◌, ◌*◌, ◌≤◌}
 use Rattle.srs.specs.declared.placement.Placement.{Placement}
-use Rattle.srs.specs.Rotation.{rotation_place}
+use Rattle.srs.specs.Rotation.{rotation_index}
 
 -- the pivot lies in the well
 pub record IsPivot (state : Placement) : Type 0 where
@@ -10,4 +10,4 @@ pub record IsPivot (state : Placement) : Type 0 where
 
 -- the number of a state among those of its piece
 unfoldable pub state_code : Placement → ℕ
-state_code state = rotation_place state.rotation * 230 + (state.y * 10 + state.x)
+state_code state = rotation_index state.rotation * 230 + (state.y * 10 + state.x)

@@ -97,7 +97,7 @@ all_tried supply E x y floor span spans rows small none tried stacks =
 pub third_form : (supply : Supply) (E : Field) (x y : ℕ) (piece kind : Piece) → piece ≡ kind → 2 < length (forms_of kind) →
     StacksOver supply E x y 0 (get_or (forms_of kind) 2 []) → StacksPiece supply E x y piece
 third_form supply E x y piece kind is below stacks =
-    subst (λ (p : Piece). StacksPiece supply E x y p) (sym is) (record { place = 2; known = below; stacks = stacks })
+    subst (λ (p : Piece). StacksPiece supply E x y p) (sym is) (record { index = 2; known = below; stacks = stacks })
 
 -- a span with the leftmost column may take row y, where it has all its cells
 pub first_may : (E : Field) (x y : ℕ) (span : Span) → has_first span ≡ true → has_span E x span y ≡ true → MayTake (is_allowed y) E x 0 span y

@@ -9,10 +9,10 @@ use Rattle.std.specs.declared.cmp.Ordering.TheVariants.{Less, Equal}
 use Rattle.std.proofs.lemmas.Bool.{ne_eqb, or_cases}
 use Rattle.std.proofs.lemmas.List.{length-map}
 use Rattle.std.proofs.lemmas.Map.Steps.{length-le_from_distinct_below}
-use Rattle.srs.proofs.CallerLemmas.{Contains-here, Contains-there, rising-first, rising-rest, PivotInside, piece_code-injective, rotation_place-injective, sequence_cmp-total, piece_code-some, rotation_place-small, same_placement}
+use Rattle.srs.proofs.CallerLemmas.{Contains-here, Contains-there, rising-first, rising-rest, PivotInside, piece_code-injective, rotation_index-injective, sequence_cmp-total, piece_code-some, rotation_index-small, same_placement}
 use Rattle.srs.specs.declared.placement.Placement.{Placement}
 use Rattle.srs.specs.Piece.{piece_code}
-use Rattle.srs.specs.Rotation.{rotation_place}
+use Rattle.srs.specs.Rotation.{rotation_index}
 use Rattle.srs.specs.Order.{sequence_cmp}
 
 -- ---- the number of a sequence
@@ -22,7 +22,7 @@ number_with : (code rotation x y : ℕ) → ℕ
 number_with code rotation x y = x + 10 * (y + 23 * (rotation + 4 * (code - 1)))
 
 placement_number : Placement → ℕ
-placement_number q = number_with (piece_code q.piece) (rotation_place q.rotation) q.x q.y
+placement_number q = number_with (piece_code q.piece) (rotation_index q.rotation) q.x q.y
 
 sequence_number : List Placement → ℕ
 sequence_number [] = 0
@@ -45,8 +45,8 @@ with_same a b r s x u y v a-some b-some r-few s-few x-few u-few y-few v-few same
 same_number : (q r : Placement) → PivotInside q → PivotInside r → placement_number q ≡ placement_number r → q ≡ r
 unfolding placement_number
 same_number q r one other same =
-    let is = with_same _ _ _ _ _ _ _ _ (piece_code-some q.piece) (piece_code-some r.piece) (rotation_place-small q.rotation) (rotation_place-small r.rotation) one.in_columns other.in_columns one.in_rows other.in_rows same in
-    same_placement q r (piece_code-injective q.piece r.piece is.code) (rotation_place-injective q.rotation r.rotation is.rotation) is.column is.row
+    let is = with_same _ _ _ _ _ _ _ _ (piece_code-some q.piece) (piece_code-some r.piece) (rotation_index-small q.rotation) (rotation_index-small r.rotation) one.in_columns other.in_columns one.in_rows other.in_rows same in
+    same_placement q r (piece_code-injective q.piece r.piece is.code) (rotation_index-injective q.rotation r.rotation is.rotation) is.column is.row
 
 -- four placements whose pivots lie in the well
 pub record AreFour (s : List Placement) : Type 0 where

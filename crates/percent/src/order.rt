@@ -31,7 +31,7 @@ pub fn roughness(well: &Well, rows: u8) -> u32
 pub fn rank(child: &Child) -> u64 {
     let placement = &child.placement;
     u64::from(child.position.roughness) << 24
-        | u64::from(placement.rotation.place()) << 16
+        | u64::from(placement.rotation.index()) << 16
         | u64::from(placement.y) << 8
         | u64::from(placement.x)
 }

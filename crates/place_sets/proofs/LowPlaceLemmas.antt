@@ -12,8 +12,8 @@ use Rattle.srs.specs.declared.rotation.Rotation.TheVariants.{Spawn, Right, Rever
 use Rattle.srs.specs.declared.placement.Placement.{Placement}
 use Rattle.srs.specs.Order.{placement_cmp}
 use Rattle.srs.specs.Piece.{piece_code}
-use Rattle.srs.specs.Rotation.{rotation_place}
-use Rattle.srs.proofs.CallerLemmas.{piece_code-injective, rotation_place-injective, rotation_place-small}
+use Rattle.srs.specs.Rotation.{rotation_index}
+use Rattle.srs.proofs.CallerLemmas.{piece_code-injective, rotation_index-injective, rotation_index-small}
 use Rattle.srs.specs.Rising.{IsNextAbove}
 use Rattle.well.specs.LockLaws.{is_below}
 use Rattle.place_sets.specs.States.{HasExactly, IsUnder, States, has_state}
@@ -32,44 +32,44 @@ each_word P a b c d e f g h h9 small = search rules
 
 -- the word and the bit of a cell
 abbrev pub word_of : ℕ → ℕ → ℕ
-word_of place y = 2 * place + y / 4
+word_of index y = 2 * index + y / 4
 
 abbrev pub bit_of : ℕ → ℕ → ℕ
 bit_of x y = 16 * (y % 4) + x
 
-module _ (words : List ℕ) (place x y : ℕ) where
-  pub cell-parts : cells_of_words words place x y ≡ true → (x < 16) × (y < 8) × (has_bit (get_or words (word_of place y) 0) (bit_of x y) ≡ true)
+module _ (words : List ℕ) (index x y : ℕ) where
+  pub cell-parts : cells_of_words words index x y ≡ true → (x < 16) × (y < 8) × (has_bit (get_or words (word_of index y) 0) (bit_of x y) ≡ true)
   unfolding cells_of_words
   cell-parts has = search (rules, and_parts, ltb-true)
 
-  pub cell-from : x < 16 → y < 8 → has_bit (get_or words (word_of place y) 0) (bit_of x y) ≡ true → cells_of_words words place x y ≡ true
+  pub cell-from : x < 16 → y < 8 → has_bit (get_or words (word_of index y) 0) (bit_of x y) ≡ true → cells_of_words words index x y ≡ true
   unfolding cells_of_words
   cell-from column row has = and_from _ _ (and_from _ _ (lt-ltb x 16 column) (lt-ltb y 8 row)) has
 
 module _ (places : LowPlaces) where
-  pub low_holds-parts : (q : Placement) → IsTrue (holds places q) → (q.piece ≡ piece_of places) × (cells_of_words places.words (rotation_place q.rotation) q.x q.y ≡ true)
+  pub low_holds-parts : (q : Placement) → IsTrue (holds places q) → (q.piece ≡ piece_of places) × (cells_of_words places.words (rotation_index q.rotation) q.x q.y ≡ true)
   unfolding holds
   low_holds-parts q held = search (rules, and_parts, piece_code-injective, eqb-true)
 
-  pub low_holds-from : (q : Placement) → q.piece ≡ piece_of places → cells_of_words places.words (rotation_place q.rotation) q.x q.y ≡ true → IsTrue (holds places q)
+  pub low_holds-from : (q : Placement) → q.piece ≡ piece_of places → cells_of_words places.words (rotation_index q.rotation) q.x q.y ≡ true → IsTrue (holds places q)
   unfolding holds
   low_holds-from q kind held = and_from _ _ (eq-eqb _ _ (ap (λ (p : Piece). piece_code p) kind)) held
 
 -- where all words are empty, nothing is held
 pub low_none : (places : LowPlaces) → ((w : ℕ) → w < 8 → get_or places.words w 0 ≡ 0) → (q : Placement) → IsTrue (holds places q) → ⊥
 low_none places empty q held =
-    search (rules, both_ways, (has_bit-zero (bit_of q.x q.y)), (rotation_place-small q.rotation), (cell-parts places.words (rotation_place q.rotation) q.x q.y (low_holds-parts places q held).1))
+    search (rules, both_ways, (has_bit-zero (bit_of q.x q.y)), (rotation_index-small q.rotation), (cell-parts places.words (rotation_index q.rotation) q.x q.y (low_holds-parts places q held).1))
 
 -- the placement of a bit
 pub record IsAt (piece : Piece) (at bit : ℕ) (s : Placement) : Type 0 where
   pub kind : s.piece ≡ piece
-  pub rotation : rotation_place s.rotation ≡ at / 2
+  pub rotation : rotation_index s.rotation ≡ at / 2
   pub row : s.y ≡ 4 * (at % 2) + bit / 16
   pub column : s.x ≡ bit % 16
 
 -- it is the one of its piece with its word and its bit
-pub same_place : (piece : Piece) (at bit : ℕ) (s q : Placement) → bit < 64 → IsAt piece at bit s → q.piece ≡ piece → q.x < 16 → q.y < 8 → word_of (rotation_place q.rotation) q.y ≡ at → bit_of q.x q.y ≡ bit → s ≡ q
-same_place piece at bit s q within is kind narrow low word place = search (rules, rotation_place-injective)
+pub same_place : (piece : Piece) (at bit : ℕ) (s q : Placement) → bit < 64 → IsAt piece at bit s → q.piece ≡ piece → q.x < 16 → q.y < 8 → word_of (rotation_index q.rotation) q.y ≡ at → bit_of q.x q.y ≡ bit → s ≡ q
+same_place piece at bit s q within is kind narrow low word index = search (rules, rotation_index-injective)
 
 -- the lowest bit of the first word that has one
 module _ (places : LowPlaces) (at bit : ℕ) (small : at < 8) (within : bit < 64) (before : (w : ℕ) → w < at → get_or places.words w 0 ≡ 0)
@@ -79,8 +79,8 @@ module _ (places : LowPlaces) (at bit : ℕ) (small : at < 8) (within : bit < 64
 
   comes_later : (q : Placement) → IsTrue (holds places q) → state_number s ≤ state_number q
   comes_later q held =
-      let cell = cell-parts places.words (rotation_place q.rotation) q.x q.y (low_holds-parts places q held).1 in
-      let word = word_of (rotation_place q.rotation) q.y in
+      let cell = cell-parts places.words (rotation_index q.rotation) q.x q.y (low_holds-parts places q held).1 in
+      let word = word_of (rotation_index q.rotation) q.y in
       elim (cases_order word at) [
         | inl same ↦ search rules
         | inr apart ↦ search (rules, both_ways, has_bit-zero)
@@ -92,7 +92,7 @@ module _ (places : LowPlaces) (at bit : ℕ) (small : at < 8) (within : bit < 64
     above = refl;
     least = λ q held above less.
         let parts = low_holds-parts places q held in
-        let cell = cell-parts places.words (rotation_place q.rotation) q.x q.y parts.1 in
+        let cell = cell-parts places.words (rotation_index q.rotation) q.x q.y parts.1 in
         let fewer = number_less q s record { column = omega (arith, cell.0); row = omega (arith, cell.1) } record { column = omega (arith, is.column); row = omega (arith, is.row) } (parts.0 ∙ sym is.kind) less in
         omega (arith, fewer, comes_later q held);
   }
@@ -108,7 +108,7 @@ module _ (places : LowPlaces) (at bit : ℕ) (small : at < 8) (within : bit < 64
     low_rest q = (there, back)
       where
         w : ℕ
-        w = word_of (rotation_place q.rotation) q.y
+        w = word_of (rotation_index q.rotation) q.y
 
         k : ℕ
         k = bit_of q.x q.y
@@ -116,18 +116,18 @@ module _ (places : LowPlaces) (at bit : ℕ) (small : at < 8) (within : bit < 64
         there : IsTrue (holds new q) → IsTrue (holds places q) × (Some s ≢ Some q)
         there held =
             let parts = low_holds-parts new q held in
-            let cell = cell-parts new.words (rotation_place q.rotation) q.x q.y parts.1 in
+            let cell = cell-parts new.words (rotation_index q.rotation) q.x q.y parts.1 in
             let both = and_parts (has_bit (get_or places.words w 0) k) _ (sym (bit_in w k (omega (arith, cell.0))) ∙ cell.2) in (
-              low_holds-from places q (parts.0 ∙ kind) (cell-from places.words (rotation_place q.rotation) q.x q.y cell.0 cell.1 both.0),
+              low_holds-from places q (parts.0 ∙ kind) (cell-from places.words (rotation_index q.rotation) q.x q.y cell.0 cell.1 both.0),
               λ e.
                   let word : w ≡ at = ap (λ (o : Option Placement). word_in o) (sym e) ∙ omega (arith, is.rotation, is.row) in
-                  let place : k ≡ bit = ap (λ (o : Option Placement). bit_in_word o) (sym e) ∙ omega (arith, is.row, is.column) in
-                  both_ways _ (not-true _ both.1) (and_from _ _ (eq-eqb w at word) (eq-eqb k bit place)),
+                  let index : k ≡ bit = ap (λ (o : Option Placement). bit_in_word o) (sym e) ∙ omega (arith, is.row, is.column) in
+                  both_ways _ (not-true _ both.1) (and_from _ _ (eq-eqb w at word) (eq-eqb k bit index)),
             )
           where
             word_in : Option Placement → ℕ
             word_in None = 0
-            word_in (Some t) = word_of (rotation_place t.rotation) t.y
+            word_in (Some t) = word_of (rotation_index t.rotation) t.y
 
             bit_in_word : Option Placement → ℕ
             bit_in_word None = 0
@@ -136,20 +136,20 @@ module _ (places : LowPlaces) (at bit : ℕ) (small : at < 8) (within : bit < 64
         back : IsTrue (holds places q) × (Some s ≢ Some q) → IsTrue (holds new q)
         back (held, apart) =
             let parts = low_holds-parts places q held in
-            let cell = cell-parts places.words (rotation_place q.rotation) q.x q.y parts.1 in
+            let cell = cell-parts places.words (rotation_index q.rotation) q.x q.y parts.1 in
             low_holds-from new q (parts.0 ∙ sym kind)
-            (cell-from new.words (rotation_place q.rotation) q.x q.y cell.0 cell.1
+            (cell-from new.words (rotation_index q.rotation) q.x q.y cell.0 cell.1
             (bit_in w k (omega (arith, cell.0)) ∙ and_from _ _ cell.2 (other (cases_Bool ((w == at) && (k == bit))))))
           where
             other : (((w == at) && (k == bit)) ≡ true) ⊎ (((w == at) && (k == bit)) ≡ false) → not ((w == at) && (k == bit)) ≡ true
-            other (inl same) = search (rules, (same_place (piece_of places)), (low_holds-parts places q), (cell-parts places.words (rotation_place q.rotation) q.x q.y), (eqb-true w), (and_parts (w == at) (k == bit)), (eqb-true k bit))
+            other (inl same) = search (rules, (same_place (piece_of places)), (low_holds-parts places q), (cell-parts places.words (rotation_index q.rotation) q.x q.y), (eqb-true w), (and_parts (w == at) (k == bit)), (eqb-true k bit))
             other (inr none) = not_from_false _ none
 
 -- words that have lost the bits of others
-pub cells-lost : (old new others : List ℕ) → ((w : ℕ) → w < 8 → (k : ℕ) → has_bit (get_or new w 0) k ≡ (has_bit (get_or old w 0) k && not (has_bit (get_or others w 0) k))) → (place x y : ℕ) → place < 4 →
-    cells_of_words new place x y ≡ (cells_of_words old place x y && not (cells_of_words others place x y))
+pub cells-lost : (old new others : List ℕ) → ((w : ℕ) → w < 8 → (k : ℕ) → has_bit (get_or new w 0) k ≡ (has_bit (get_or old w 0) k && not (has_bit (get_or others w 0) k))) → (index x y : ℕ) → index < 4 →
+    cells_of_words new index x y ≡ (cells_of_words old index x y && not (cells_of_words others index x y))
 unfolding cells_of_words
-cells-lost old new others lost place x y few = search (rules, cases_Bool, ltb-true, and_parts)
+cells-lost old new others lost index x y few = search (rules, cases_Bool, ltb-true, and_parts)
 
 -- the word has four rows of a rotation from a row on, without those past a limit
 abbrev pub CutFrom : States → Rotation → ℕ → ℕ → ℕ → Type 0
@@ -157,14 +157,14 @@ CutFrom S r row limit word = (k : ℕ) → k < 64 → has_bit word k ≡ (S r (k
 
 -- two words that have the rows of a rotation below a limit
 pub cut_cells : {N : ℕ} (S : States) (words : List ℕ) (limit : ℕ) (r : Rotation) → LiesWithin (S r) N → limit ≤ 8 →
-    CutFrom S r 0 limit (get_or words (2 * rotation_place r) 0) → CutFrom S r 4 limit (get_or words (2 * rotation_place r + 1) 0) → (x y : ℕ) →
-    cells_of_words words (rotation_place r) x y ≡ (S r x y && nat_lt y limit)
+    CutFrom S r 0 limit (get_or words (2 * rotation_index r) 0) → CutFrom S r 4 limit (get_or words (2 * rotation_index r + 1) 0) → (x y : ℕ) →
+    cells_of_words words (rotation_index r) x y ≡ (S r x y && nat_lt y limit)
 cut_cells S words limit r lies low first second x y =
-    search (rules, same_from_both, (nat_lt y limit), cases_lt, lt-ltb, ltb-true, (cell-parts words (rotation_place r) x y), (lies.inside x y), (and_parts (S r x y) (nat_lt y limit)), (ltb-true y limit), (cell-from words (rotation_place r) x y))
+    search (rules, same_from_both, (nat_lt y limit), cases_lt, lt-ltb, ltb-true, (cell-parts words (rotation_index r) x y), (lies.inside x y), (and_parts (S r x y) (nat_lt y limit)), (ltb-true y limit), (cell-from words (rotation_index r) x y))
 
 -- the states that lie so low
 pub low_filled : (new : LowPlaces) (piece : Piece) (S : States) (rows : ℕ) → piece_of new ≡ piece →
-    ((r : Rotation) (x y : ℕ) → cells_of_words new.words (rotation_place r) x y ≡ (S r x y && nat_lt y (rows - rows_over_pivot piece r))) → (q : Placement) →
+    ((r : Rotation) (x y : ℕ) → cells_of_words new.words (rotation_index r) x y ≡ (S r x y && nat_lt y (rows - rows_over_pivot piece r))) → (q : Placement) →
     IsTrue (holds new q) ↔ ((q.piece ≡ piece) × (has_state S q ≡ true) × IsTrue (is_below rows q))
 unfolding has_state
 low_filled new piece S rows kind fills q =
@@ -172,15 +172,15 @@ low_filled new piece S rows kind fills q =
 
 -- eight words that have the states that lie so low
 module _ {N : ℕ} (new : LowPlaces) (piece : Piece) (S : States) (rows : ℕ) (left : List ℕ) (low : rows ≤ 8) (lies : (r : Rotation) → LiesWithin (S r) N)
-    (limits : (r : Rotation) → get_or left (rotation_place r) 0 ≡ rows - rows_over_pivot piece r)
+    (limits : (r : Rotation) → get_or left (rotation_index r) 0 ≡ rows - rows_over_pivot piece r)
     (a : CutFrom S Spawn 0 (get_or left 0 0) (get_or new.words 0 0)) (b : CutFrom S Spawn 4 (get_or left 0 0) (get_or new.words 1 0))
     (c : CutFrom S Right 0 (get_or left 1 0) (get_or new.words 2 0)) (d : CutFrom S Right 4 (get_or left 1 0) (get_or new.words 3 0))
     (e : CutFrom S Reverse 0 (get_or left 2 0) (get_or new.words 4 0)) (f : CutFrom S Reverse 4 (get_or left 2 0) (get_or new.words 5 0))
     (g : CutFrom S Left 0 (get_or left 3 0) (get_or new.words 6 0)) (h : CutFrom S Left 4 (get_or left 3 0) (get_or new.words 7 0)) where
-  few : (r : Rotation) → get_or left (rotation_place r) 0 ≤ 8
+  few : (r : Rotation) → get_or left (rotation_index r) 0 ≤ 8
   few r = omega (arith, limits r, low)
 
-  cells : (r : Rotation) (x y : ℕ) → cells_of_words new.words (rotation_place r) x y ≡ (S r x y && nat_lt y (get_or left (rotation_place r) 0))
+  cells : (r : Rotation) (x y : ℕ) → cells_of_words new.words (rotation_index r) x y ≡ (S r x y && nat_lt y (get_or left (rotation_index r) 0))
   cells Spawn = cut_cells S new.words (get_or left 0 0) Spawn (lies Spawn) (few Spawn) a b
   cells Right = cut_cells S new.words (get_or left 1 0) Right (lies Right) (few Right) c d
   cells Reverse = cut_cells S new.words (get_or left 2 0) Reverse (lies Reverse) (few Reverse) e f
@@ -208,23 +208,23 @@ held_under P piece M rows S few are q kind low =
 -- where no word has a bit, nothing is held
 pub held_none : (places : LowPlaces) → ((w k : ℕ) → w < 8 → k < 64 → has_bit (get_or places.words w 0) k ≡ false) → (q : Placement) → holds places q ≡ false
 held_none places none q =
-    search (rules, false_from_ne_true, both_ways, (rotation_place-small q.rotation), (cell-parts places.words (rotation_place q.rotation) q.x q.y), (low_holds-parts places q))
+    search (rules, false_from_ne_true, both_ways, (rotation_index-small q.rotation), (cell-parts places.words (rotation_index q.rotation) q.x q.y), (low_holds-parts places q))
 
 -- where nothing is held, no word has a bit
 pub no_bits : (places : LowPlaces) → ((q : Placement) → holds places q ≡ false) → (w k : ℕ) → w < 8 → k < 64 → has_bit (get_or places.words w 0) k ≡ false
 no_bits places none w k below within = false_from_ne_true _ (λ has.
     let at = rotation_at (w / 2) (omega (arith, below)) in
     let is = at.1 in
-    let word : word_of (rotation_place at.0) (4 * (w % 2) + k / 16) ≡ w = omega (arith, is, within) in
+    let word : word_of (rotation_index at.0) (4 * (w % 2) + k / 16) ≡ w = omega (arith, is, within) in
     let bit : bit_of (k % 16) (4 * (w % 2) + k / 16) ≡ k = omega (arith, within) in
     let q : Placement = record { piece = piece_of places; rotation = at.0; x = k % 16; y = 4 * (w % 2) + k / 16 } in
     both_ways _ (none q)
-    (low_holds-from places q refl (cell-from places.words (rotation_place at.0) (k % 16) (4 * (w % 2) + k / 16) (omega arith) (omega (arith, within))
+    (low_holds-from places q refl (cell-from places.words (rotation_index at.0) (k % 16) (4 * (w % 2) + k / 16) (omega arith) (omega (arith, within))
     ((λ i. has_bit (get_or places.words (word i) 0) (bit i)) ∙ has))))
   where
-    rotation_at : (place : ℕ) → place < 4 → (rotation : Rotation) × (rotation_place rotation ≡ place)
+    rotation_at : (index : ℕ) → index < 4 → (rotation : Rotation) × (rotation_index rotation ≡ index)
     rotation_at zero small = (Spawn, refl)
     rotation_at (suc zero) small = (Right, refl)
     rotation_at (suc (suc zero)) small = (Reverse, refl)
     rotation_at (suc (suc (suc zero))) small = (Left, refl)
-    rotation_at (suc (suc (suc (suc place)))) small = absurd (omega arith)
+    rotation_at (suc (suc (suc (suc index)))) small = absurd (omega arith)

@@ -6,8 +6,8 @@ use Rattle.std.proofs.Math.Bool.{and-true}
 use Rattle.lane_board.specs.Lanes.{has_bit}
 use Rattle.lane_board.proofs.CallerLemmas.{same_from_both, has_bit-zero}
 use Rattle.srs.specs.declared.rotation.Rotation.{Rotation}
-use Rattle.srs.specs.Rotation.{rotation_place}
-use Rattle.srs.proofs.CallerLemmas.{rotation_place-injective}
+use Rattle.srs.specs.Rotation.{rotation_index}
+use Rattle.srs.proofs.CallerLemmas.{rotation_index-injective}
 use Rattle.place_sets.specs.declared.numbers.Numbers.{Numbers}
 use Rattle.place_sets.specs.FourRows.{IsFourRows}
 use Rattle.place_sets.specs.Numbers.{has_number, number_of_state, is_named, states_in, IsFirstNumber, NoNumber, IsNumberFrom}
@@ -87,16 +87,16 @@ unfolding has_number
 without_number old new at bit word size small within is bits n few = search (rules, cases_eq, and-true, ne_eqb, eq-eqb)
 
 -- words that have the rows of the boards
-pub states_by : (numbers : Numbers) (S : States) → ((r : Rotation) → LiesWithin (S r) 24) → ((w : ℕ) → w < 24 → (r : Rotation) → rotation_place r ≡ w / 6 → IsFourRows (S r) (4 * (w % 6)) (get_or numbers.words w 0)) → ((r : Rotation) → rotation_place r < 4) → states_in numbers ≡ S
+pub states_by : (numbers : Numbers) (S : States) → ((r : Rotation) → LiesWithin (S r) 24) → ((w : ℕ) → w < 24 → (r : Rotation) → rotation_index r ≡ w / 6 → IsFourRows (S r) (4 * (w % 6)) (get_or numbers.words w 0)) → ((r : Rotation) → rotation_index r < 4) → states_in numbers ≡ S
 unfolding states_in has_number
 states_by numbers S lies rows few = fun_ext (λ r. fun_ext (λ x. fun_ext (λ y. same r x y)))
   where
-    at : (r : Rotation) (x y : ℕ) → x < 16 → y < 24 → has_bit (get_or numbers.words (number_of_state (rotation_place r) y x / 64) 0) (number_of_state (rotation_place r) y x % 64) ≡ S r x y
+    at : (r : Rotation) (x y : ℕ) → x < 16 → y < 24 → has_bit (get_or numbers.words (number_of_state (rotation_index r) y x / 64) 0) (number_of_state (rotation_index r) y x % 64) ≡ S r x y
     at r x y column row =
-        let n = number_of_state (rotation_place r) y x in
-        let place = few r in
+        let n = number_of_state (rotation_index r) y x in
+        let index = few r in
         let w : n / 64 < 24 = omega arith in
-        let turn : rotation_place r ≡ n / 64 / 6 = omega arith in
+        let turn : rotation_index r ≡ n / 64 / 6 = omega arith in
         let p : n % 64 % 16 ≡ x = omega arith in
         let q : 4 * (n / 64 % 6) + n % 64 / 16 ≡ y = omega arith in
         (rows (n / 64) w r turn).bits (n % 64) (omega arith) ∙ (λ i. S r (p i) (q i))
@@ -125,25 +125,25 @@ four_later words at a b c d w later = search rules
 
 -- the word has the four rows of its rotation
 abbrev pub HasRows : States → ℕ → ℕ → Type 0
-HasRows S w word = (r : Rotation) → rotation_place r ≡ w / 6 → IsFourRows (S r) (4 * (w % 6)) word
+HasRows S w word = (r : Rotation) → rotation_index r ≡ w / 6 → IsFourRows (S r) (4 * (w % 6)) word
 
-pub rows_here : (S : States) (q : Rotation) (w at place word : ℕ) → w ≡ at + 6 * place → at < 6 → rotation_place q ≡ place → IsFourRows (S q) (4 * at) word → HasRows S w word
-rows_here S q w at place word is small here rows r turn = search (rules, rotation_place-injective)
+pub rows_here : (S : States) (q : Rotation) (w at index word : ℕ) → w ≡ at + 6 * index → at < 6 → rotation_index q ≡ index → IsFourRows (S q) (4 * at) word → HasRows S w word
+rows_here S q w at index word is small here rows r turn = search (rules, rotation_index-injective)
 
 -- the word has the bits of some rows of its rotation
 abbrev pub KeepsRows : Numbers → List ℕ → ℕ → ℕ → Type 0
 KeepsRows old rows w word = (k : ℕ) → k < 64 → has_bit word k ≡ (has_bit (get_or old.words w 0) k && nat_lt k (16 * (get_or rows (w / 6) 0 - 4 * (w % 6))))
 
-pub keeps_here : (old : Numbers) (rows : List ℕ) (w at place word : ℕ) → w ≡ at + 6 * place → at < 6 → ((k : ℕ) → k < 64 → has_bit word k ≡ (has_bit (get_or old.words w 0) k && nat_lt k (16 * (get_or rows place 0 - 4 * at)))) → KeepsRows old rows w word
-keeps_here old rows w at place word is small bits k within = search rules
+pub keeps_here : (old : Numbers) (rows : List ℕ) (w at index word : ℕ) → w ≡ at + 6 * index → at < 6 → ((k : ℕ) → k < 64 → has_bit word k ≡ (has_bit (get_or old.words w 0) k && nat_lt k (16 * (get_or rows index 0 - 4 * at)))) → KeepsRows old rows w word
+keeps_here old rows w at index word is small bits k within = search rules
 
-pub under_all : (rows : List ℕ) (top : ℕ) → get_or rows 0 0 ≤ top → get_or rows 1 0 ≤ top → get_or rows 2 0 ≤ top → get_or rows 3 0 ≤ top → (place : ℕ) → place < 4 → get_or rows place 0 ≤ top
+pub under_all : (rows : List ℕ) (top : ℕ) → get_or rows 0 0 ≤ top → get_or rows 1 0 ≤ top → get_or rows 2 0 ≤ top → get_or rows 3 0 ≤ top → (index : ℕ) → index < 4 → get_or rows index 0 ≤ top
 under_all rows top a b c d h6 few = search rules
 
 -- no row that is kept is in a later word
 pub keeps_none : (old : Numbers) (rows : List ℕ) (w word : ℕ) → word ≡ 0 → get_or rows (w / 6) 0 ≤ 4 * (w % 6) → KeepsRows old rows w word
 keeps_none old rows w word none low k within = search (rules, has_bit-zero, le-ltb)
 
-pub keeps_rows : (old new : Numbers) (rows : List ℕ) → ((w : ℕ) → w < 24 → KeepsRows old rows w (get_or new.words w 0)) → (place y x : ℕ) → place < 4 → y < 24 → x < 16 → has_number new (number_of_state place y x) ≡ (has_number old (number_of_state place y x) && nat_lt y (get_or rows place 0))
+pub keeps_rows : (old new : Numbers) (rows : List ℕ) → ((w : ℕ) → w < 24 → KeepsRows old rows w (get_or new.words w 0)) → (index y x : ℕ) → index < 4 → y < 24 → x < 16 → has_number new (number_of_state index y x) ≡ (has_number old (number_of_state index y x) && nat_lt y (get_or rows index 0))
 unfolding has_number
-keeps_rows old new rows keeps place y x few row column = search (rules, same_from_both, ltb-true, lt-ltb)
+keeps_rows old new rows keeps index y x few row column = search (rules, same_from_both, ltb-true, lt-ltb)

@@ -10,8 +10,8 @@ use Rattle.srs.specs.declared.rotation.Rotation.{Rotation}
 use Rattle.srs.specs.declared.rotation.Rotation.TheVariants.{Spawn, Right, Reverse, Left}
 use Rattle.srs.specs.declared.placement.Placement.{Placement}
 use Rattle.srs.specs.Cells.{Cell}
-use Rattle.srs.specs.Rotation.{rotation_place}
-use Rattle.srs.proofs.CallerLemmas.{rotation_place-injective}
+use Rattle.srs.specs.Rotation.{rotation_index}
+use Rattle.srs.proofs.CallerLemmas.{rotation_index-injective}
 use Rattle.place_sets.specs.declared.pivots.Pivots.{Pivots}
 use Rattle.place_sets.specs.States.{States, has_state, has_pivot, states_with, states_of, Includes}
 use Rattle.place_sets.proofs.FieldLemmas.{LiesWithin, IsWithin}
@@ -27,7 +27,7 @@ pub with_here : (S : States) (r : Rotation) (F : Field) → states_with S r F r 
 unfolding states_with
 with_here S r F = search rules
 
-pub with_other : (S : States) (r s : Rotation) (F : Field) → (rotation_place s == rotation_place r) ≡ false → states_with S r F s ≡ S s
+pub with_other : (S : States) (r s : Rotation) (F : Field) → (rotation_index s == rotation_index r) ≡ false → states_with S r F s ≡ S s
 unfolding states_with
 with_other S r s F other = cond-false _ F (S s) other
 
@@ -56,7 +56,7 @@ has_pivot-at S r pivot x y e filled = subst (λ c. has_pivot S r c ≡ true) (sy
 -- the set with more pivots in one rotation includes the set before
 pub includes_with : (S : States) (r : Rotation) (F : Field) → IsWithin (S r) F → Includes (states_with S r F) S
 unfolding states_with has_state
-includes_with S r F within = search (rules, cases_Bool, rotation_place-injective, eqb-true, cond-true, cond-false)
+includes_with S r F within = search (rules, cases_Bool, rotation_index-injective, eqb-true, cond-true, cond-false)
 
 pub includes_trans : (S T U : States) → Includes T S → Includes U T → Includes U S
 includes_trans S T U one two = record { has = λ s held. two.has s (one.has s held) }
@@ -68,7 +68,7 @@ pub record ChangedIn (S : States) (r : Rotation) (F : Field) (s : Placement) : T
 
 pub with_cases : (S : States) (r : Rotation) (F : Field) (s : Placement) → has_state (states_with S r F) s ≡ true → ChangedIn S r F s ⊎ (has_state S s ≡ true)
 unfolding states_with has_state
-with_cases S r F s held = search (rules, cases_Bool, rotation_place-injective, eqb-true, cond-true, cond-false)
+with_cases S r F s held = search (rules, cases_Bool, rotation_index-injective, eqb-true, cond-true, cond-false)
 
 pub with_at : (T S : States) (r q : Rotation) (F : Field) → r ≡ q → T ≡ states_with S q F → T ≡ states_with S r F
 with_at T S r q F is e = subst (λ q. T ≡ states_with S q F) (sym is) e

@@ -12,8 +12,8 @@ use Rattle.srs.specs.declared.rotation.Rotation.{Rotation}
 use Rattle.srs.specs.declared.placement.Placement.{Placement}
 use Rattle.srs.specs.Cells.{Cell, minus, moved, shape}
 use Rattle.srs.specs.SameCells.{is_among}
-use Rattle.srs.specs.Rotation.{rotation_place}
-use Rattle.srs.proofs.CallerLemmas.{is_among-all, list_all-from_is_among, each_state, rotation_place-small}
+use Rattle.srs.specs.Rotation.{rotation_index}
+use Rattle.srs.proofs.CallerLemmas.{is_among-all, list_all-from_is_among, each_state, rotation_index-small}
 use Rattle.well.specs.LockLaws.{is_below}
 use Rattle.place_sets.specs.declared.held.Places.{Places}
 use Rattle.place_sets.specs.Numbers.{has_number, number_of_state}
@@ -25,7 +25,7 @@ use Rattle.place_sets.proofs.ScanLemmas.{holds-parts, holds-from}
 
 -- sets of one piece of which one has those of the other's numbers that pass a test
 module _ (old new : Places) (kind : new.piece ≡ old.piece) where
-  pub held_where : (q : Placement) (test : Bool) → (q.x < 16 → q.y < 24 → has_number new.numbers (number_of_state (rotation_place q.rotation) q.y q.x) ≡ (has_number old.numbers (number_of_state (rotation_place q.rotation) q.y q.x) && test)) →
+  pub held_where : (q : Placement) (test : Bool) → (q.x < 16 → q.y < 24 → has_number new.numbers (number_of_state (rotation_index q.rotation) q.y q.x) ≡ (has_number old.numbers (number_of_state (rotation_index q.rotation) q.y q.x) && test)) →
       IsTrue (holds new q) ↔ (IsTrue (holds old q) × (test ≡ true))
   unfolding has_state
   held_where q test same =
@@ -36,17 +36,17 @@ module _ (old new : Places) (kind : new.piece ≡ old.piece) where
       IsTrue (holds new q) ↔ (IsTrue (holds old q) × (Some s ≢ Some q))
   unfolding has_state
   taken_one n s small at kind_s taken q =
-      let few = rotation_place-small q.rotation in
-      let iff = held_where q (not (n == number_of_state (rotation_place q.rotation) q.y q.x)) (λ column row. taken (number_of_state (rotation_place q.rotation) q.y q.x) (omega arith)) in (
+      let few = rotation_index-small q.rotation in
+      let iff = held_where q (not (n == number_of_state (rotation_index q.rotation) q.y q.x)) (λ column row. taken (number_of_state (rotation_index q.rotation) q.y q.x) (omega arith)) in (
         λ held. let parts = iff.0 held in (parts.0, λ e. both_ways _ (not-true _ parts.1) (eq-eqb n _ (sym (ap (λ (o : Option Placement). n_of o) (sym e) ∙ number_is n s small at)))),
-        λ found. iff.1 (found.0, other found.0 found.1 (cases_Bool (n == number_of_state (rotation_place q.rotation) q.y q.x))),
+        λ found. iff.1 (found.0, other found.0 found.1 (cases_Bool (n == number_of_state (rotation_index q.rotation) q.y q.x))),
       )
     where
       n_of : Option Placement → ℕ
       n_of None = 0
-      n_of (Some t) = number_of_state (rotation_place t.rotation) t.y t.x
+      n_of (Some t) = number_of_state (rotation_index t.rotation) t.y t.x
 
-      other : IsTrue (holds old q) → (Some s ≢ Some q) → ((n == number_of_state (rotation_place q.rotation) q.y q.x) ≡ true) ⊎ ((n == number_of_state (rotation_place q.rotation) q.y q.x) ≡ false) → not (n == number_of_state (rotation_place q.rotation) q.y q.x) ≡ true
+      other : IsTrue (holds old q) → (Some s ≢ Some q) → ((n == number_of_state (rotation_index q.rotation) q.y q.x) ≡ true) ⊎ ((n == number_of_state (rotation_index q.rotation) q.y q.x) ≡ false) → not (n == number_of_state (rotation_index q.rotation) q.y q.x) ≡ true
       other held apart (inl same) =
           let parts = holds-parts old q held in
           let within = number-within old.numbers q.rotation q.x q.y parts.1 in
@@ -89,8 +89,8 @@ unfolding moved is_under_top
 below_by_pivot rows q =
     search (rules, ltb-true, list_all-map, list_all-from_is_among, le_z_yes, is_among-all, all_under_top, less_is, has_top, less_yes, top_is, lt-ltb)
 
-pub below_held : (old new : Places) (rows : ℕ) (left : List ℕ) → new.piece ≡ old.piece → ((r : Rotation) → get_or left (rotation_place r) 0 ≡ rows - rows_over_pivot old.piece r) →
-    ((place y x : ℕ) → place < 4 → y < 24 → x < 16 → has_number new.numbers (number_of_state place y x) ≡ (has_number old.numbers (number_of_state place y x) && nat_lt y (get_or left place 0))) → (q : Placement) →
+pub below_held : (old new : Places) (rows : ℕ) (left : List ℕ) → new.piece ≡ old.piece → ((r : Rotation) → get_or left (rotation_index r) 0 ≡ rows - rows_over_pivot old.piece r) →
+    ((index y x : ℕ) → index < 4 → y < 24 → x < 16 → has_number new.numbers (number_of_state index y x) ≡ (has_number old.numbers (number_of_state index y x) && nat_lt y (get_or left index 0))) → (q : Placement) →
     IsTrue (holds new q) ↔ (IsTrue (holds old q) × IsTrue (is_below rows q))
 below_held old new rows left kind is keeps q =
-    search (rules, (held_where old new kind q (nat_lt q.y (get_or left (rotation_place q.rotation) 0)) (λ column row. keeps (rotation_place q.rotation) q.y q.x (rotation_place-small q.rotation) row column)), (below_by_pivot rows q), (holds-parts old q), (nat_lt q.y (get_or left (rotation_place q.rotation) 0)), (nat_lt q.y (rows - rows_over_pivot q.piece q.rotation)), (nat_lt q.y))
+    search (rules, (held_where old new kind q (nat_lt q.y (get_or left (rotation_index q.rotation) 0)) (λ column row. keeps (rotation_index q.rotation) q.y q.x (rotation_index-small q.rotation) row column)), (below_by_pivot rows q), (holds-parts old q), (nat_lt q.y (get_or left (rotation_index q.rotation) 0)), (nat_lt q.y (rows - rows_over_pivot q.piece q.rotation)), (nat_lt q.y))

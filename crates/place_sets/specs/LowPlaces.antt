@@ -5,7 +5,7 @@ use Rattle.srs.specs.declared.placement.Placement.{Placement}
 use Rattle.srs.specs.declared.piece.Piece.{Piece}
 use Rattle.srs.specs.declared.piece.Piece.TheVariants.{I}
 use Rattle.srs.specs.Piece.{all_pieces, piece_code}
-use Rattle.srs.specs.Rotation.{rotation_place}
+use Rattle.srs.specs.Rotation.{rotation_index}
 use Rattle.place_sets.specs.declared.low_held.LowPlaces.{LowPlaces}
 
 -- the piece whose placements they are
@@ -15,4 +15,4 @@ piece_of places = slice_index_or all_pieces places.kind I
 -- whether the places hold a placement
 unfoldable pub holds : LowPlaces → Placement → Bool
 holds places placement = piece_code placement.piece == piece_code (piece_of places)
-    && cells_of_words places.words (rotation_place placement.rotation) placement.x placement.y
+    && cells_of_words places.words (rotation_index placement.rotation) placement.x placement.y

@@ -1,7 +1,7 @@
 -- A set of numbers below 1,536, one bit each; the number of a state, which rises with the order of states.
 use Rattle.std.specs.Prelude.{◌≡◌, ℕ, ◌+◌, ◌*◌, ◌/◌, ◌%◌, ◌<◌, ◌≤◌, Bool, true, false, ◌&&◌, ◌==◌, nat_lt, slice_index, Option, Some, None}
 use Rattle.lane_board.specs.Lanes.{has_bit}
-use Rattle.srs.specs.Rotation.{rotation_place}
+use Rattle.srs.specs.Rotation.{rotation_index}
 use Rattle.place_sets.specs.declared.numbers.Numbers.{Numbers}
 use Rattle.place_sets.specs.States.{States}
 
@@ -9,14 +9,14 @@ use Rattle.place_sets.specs.States.{States}
 unfoldable pub has_number : Numbers → ℕ → Bool
 has_number numbers n = has_bit (slice_index numbers.words (n / 64)) (n % 64)
 
--- the number of a state, by the place of its rotation: 24 rows for each rotation, 16 numbers for each row
+-- the number of a state, by the index of its rotation: 24 rows for each rotation, 16 numbers for each row
 abbrev pub number_of_state : ℕ → ℕ → ℕ → ℕ
-number_of_state place y x = place * 384 + (y * 16 + x)
+number_of_state index y x = index * 384 + (y * 16 + x)
 
 -- the states whose numbers the set has
 unfoldable pub states_in : Numbers → States
 states_in numbers rotation x y = nat_lt x 16 && nat_lt y 24
-    && has_number numbers (number_of_state (rotation_place rotation) y x)
+    && has_number numbers (number_of_state (rotation_index rotation) y x)
 
 -- the one number that is named, if there is one
 abbrev pub is_named : Option ℕ → ℕ → Bool

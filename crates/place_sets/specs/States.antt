@@ -7,7 +7,7 @@ use Rattle.srs.specs.declared.rotation.Rotation.{Rotation}
 use Rattle.srs.specs.declared.rotation.Rotation.TheVariants.{Spawn, Right, Reverse, Left}
 use Rattle.srs.specs.declared.placement.Placement.{Placement}
 use Rattle.srs.specs.Cells.{Cell}
-use Rattle.srs.specs.Rotation.{rotation_place}
+use Rattle.srs.specs.Rotation.{rotation_index}
 use Rattle.place_sets.specs.declared.pivots.Pivots.{Pivots}
 
 -- the pivots of the states in each rotation
@@ -28,7 +28,7 @@ has_pivot S rotation pivot = has_cell (S rotation) pivot.0 pivot.1
 
 -- the set with the pivots of one rotation changed
 unfoldable pub states_with : States → Rotation → Field → States
-states_with S rotation F r = if rotation_place r == rotation_place rotation then F else S r
+states_with S rotation F r = if rotation_index r == rotation_index rotation then F else S r
 
 -- the states whose pivots four boards hold
 unfoldable pub states_of : {N : ℕ} → Pivots N → States

@@ -56,7 +56,7 @@ impl Places {
             Some(last) => first_state(
                 &self.numbers,
                 self.piece,
-                last.rotation.place(),
+                last.rotation.index(),
                 last.y,
                 u16::from(last.x) + 1,
             ),

@@ -3,7 +3,7 @@ ghost use Rattle.std.specs.Prelude.{◌≡◌, ℕ, ◌*◌, ◌+◌, ◌-◌, �
 ghost use Rattle.lane_board.specs.Board.{field_of};
 ghost use Rattle.lane_board.specs.Lanes.{has_bit};
 ghost use Rattle.srs.specs.Piece.{piece_code};
-ghost use Rattle.srs.specs.Rotation.{rotation_place};
+ghost use Rattle.srs.specs.Rotation.{rotation_index};
 
 use crate::pivots::Pivots;
 use crate::scan::rotation_at;
@@ -50,7 +50,7 @@ fn placement_at(piece: Piece, word: usize, bit: u16) -> Placement
     requires word { word < 8 }
     requires bit { bit < 64 }
     ensures piece { result.piece ≡ piece }
-    ensures rotation { rotation_place result.rotation ≡ word / 2 }
+    ensures rotation { rotation_index result.rotation ≡ word / 2 }
     ensures row { result.y ≡ 4 * (word % 2) + bit / 16 }
     ensures column { result.x ≡ bit % 16 }
 {
@@ -162,7 +162,7 @@ impl LowPlaces {
     pub fn leave_out(&mut self, pivots: &[u64; 8])
         ensures piece { piece_of self.new ≡ piece_of self.old }
         ensures held { (q : Placement) → holds self.new q
-            ≡ (holds self.old q && not (cells_of_words pivots.now (rotation_place q.rotation) q.x q.y)) }
+            ≡ (holds self.old q && not (cells_of_words pivots.now (rotation_index q.rotation) q.x q.y)) }
     {
         self.words = [
             bits_without(self.words[0], pivots[0]),

@@ -40,7 +40,7 @@ fn first_words(count: usize) -> u64
 fn words_below(rows: [u8; 4]) -> usize
     requires { length rows ≡ 4 }
     ensures few { result ≤ 6 }
-    ensures all { (place w : ℕ) → place < 4 → result ≤ w → w < 6 → slice_index rows place ≤ 4 * w }
+    ensures all { (index w : ℕ) → index < 4 → result ≤ w → w < 6 → slice_index rows index ≤ 4 * w }
 {
     let highest = rows[0].max(rows[1]).max(rows[2]).max(rows[3]);
     ((usize::from(highest) + 3) / 4).min(EACH)
@@ -48,7 +48,7 @@ fn words_below(rows: [u8; 4]) -> usize
 
 impl Numbers {
     ghost use Rattle.std.specs.Prelude.{not};
-    ghost use Rattle.srs.specs.Rotation.{rotation_place};
+    ghost use Rattle.srs.specs.Rotation.{rotation_index};
     ghost use Rattle.place_sets.specs.Numbers.{has_number, number_of_state, is_named, states_in};
     ghost use Rattle.place_sets.specs.Numbers.{IsNumberFrom, IsWordAmong};
     ghost use Rattle.place_sets.specs.States.{has_state, states_of};
@@ -152,8 +152,8 @@ impl Numbers {
     /// The numbers of the states that lie below the given row of their rotation.
     pub(crate) fn in_rows_below(&self, rows: [u8; 4]) -> Numbers
         requires { length rows ≡ 4 }
-        ensures { (place y x : ℕ) → place < 4 → y < 24 → x < 16 → has_number result (number_of_state place y x)
-            ≡ (has_number self.now (number_of_state place y x) && nat_lt y (slice_index rows place)) }
+        ensures { (index y x : ℕ) → index < 4 → y < 24 → x < 16 → has_number result (number_of_state index y x)
+            ≡ (has_number self.now (number_of_state index y x) && nat_lt y (slice_index rows index)) }
     {
         let each = words_below(rows);
         let mut words = [0; WORDS];

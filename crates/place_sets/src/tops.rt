@@ -1,6 +1,6 @@
 // How low the pivot lies if all cells of a placement lie below a row.
 ghost use Rattle.std.specs.Prelude.{◌≡◌, ℕ, ◌-◌, ◌<◌, ◌≤◌, length, slice_index};
-ghost use Rattle.srs.specs.Rotation.{rotation_place};
+ghost use Rattle.srs.specs.Rotation.{rotation_index};
 ghost use Rattle.srs.specs.declared.rotation.Rotation.{Rotation};
 ghost use Rattle.place_sets.specs.Tops.{rows_over_pivot};
 
@@ -9,8 +9,8 @@ use srs::{Piece, Rotation};
 /// For each rotation, the row that a pivot lies below exactly if all cells of the piece lie below row `rows`.
 pub(crate) fn rows_left(piece: Piece, rows: u8) -> [u8; 4]
     ensures four { length result ≡ 4 }
-    ensures few { (place : ℕ) → place < 4 → slice_index result place ≤ rows }
-    ensures left { (rotation : Rotation) → slice_index result (rotation_place rotation)
+    ensures few { (index : ℕ) → index < 4 → slice_index result index ≤ rows }
+    ensures left { (rotation : Rotation) → slice_index result (rotation_index rotation)
         ≡ rows - rows_over_pivot piece rotation }
 {
     [

@@ -8,32 +8,32 @@ use Rattle.srs.specs.declared.piece.Piece.{Piece}
 use Rattle.srs.specs.declared.rotation.Rotation.{Rotation}
 use Rattle.srs.specs.declared.placement.Placement.{Placement}
 use Rattle.srs.specs.Piece.{piece_code, piece_with_code}
-use Rattle.srs.specs.Rotation.{rotation_place}
+use Rattle.srs.specs.Rotation.{rotation_index}
 use Rattle.placement_numbers.specs.Numbers.{AreNumbersOf, HasPivotInWell, numbers_of, sequence_numbers}
 use Rattle.placement_numbers.specs.Reading.{placement_in, placements_in, rotation_at}
 
 -- ---- one placement
 
-placement_read : (q : Placement) → HasPivotInWell q → placement_in (piece_code q.piece) (rotation_place q.rotation) q.x q.y ≡ Some q
+placement_read : (q : Placement) → HasPivotInWell q → placement_in (piece_code q.piece) (rotation_index q.rotation) q.x q.y ≡ Some q
 unfolding placement_in
 placement_read q within = search rules
 
 -- the placement has these numbers
-record HasNumbers (code place column row : ℕ) (q : Placement) : Type 0 where
-  pub are : code ∷ place ∷ column ∷ row ∷ [] ≡ numbers_of q
+record HasNumbers (code index column row : ℕ) (q : Placement) : Type 0 where
+  pub are : code ∷ index ∷ column ∷ row ∷ [] ≡ numbers_of q
   pub within : HasPivotInWell q
 
-parts_only : (code place column row : ℕ) (piece : Piece) (rotation : Rotation) (q : Placement) → piece_with_code code ≡ Some piece → rotation_at place ≡ Some rotation
+parts_only : (code index column row : ℕ) (piece : Piece) (rotation : Rotation) (q : Placement) → piece_with_code code ≡ Some piece → rotation_at index ≡ Some rotation
     → (if nat_le column 9 && nat_le row 22 then Some (record { piece = piece; rotation = rotation; x = column; y = row }) else None) ≡ Some q
-    → HasNumbers code place column row q
-parts_only code place column row piece rotation q piece_is rotation_is read = search rules
+    → HasNumbers code index column row q
+parts_only code index column row piece rotation q piece_is rotation_is read = search rules
 
-placement_only : (code place column row : ℕ) (q : Placement) → placement_in code place column row ≡ Some q → HasNumbers code place column row q
+placement_only : (code index column row : ℕ) (q : Placement) → placement_in code index column row ≡ Some q → HasNumbers code index column row q
 unfolding placement_in
-placement_only code place column row q read =
+placement_only code index column row q read =
     option_and_then_some _ (piece_with_code code) q read (λ piece piece_is rest.
-    option_and_then_some _ (rotation_at place) q rest (λ rotation rotation_is same.
-    parts_only code place column row piece rotation q piece_is rotation_is same))
+    option_and_then_some _ (rotation_at index) q rest (λ rotation rotation_is same.
+    parts_only code index column row piece rotation q piece_is rotation_is same))
 
 -- ---- sequences
 
@@ -53,9 +53,9 @@ record AreThoseOf (numbers : List ℕ) (sequence : List Placement) : Type 0 wher
   pub are : numbers ≡ sequence_numbers sequence
   pub within : All HasPivotInWell sequence
 
-more_only : (code place column row : ℕ) (rest : List ℕ) (q : Placement) (more : List Placement) → HasNumbers code place column row q → AreThoseOf rest more
-    → AreThoseOf (code ∷ place ∷ column ∷ row ∷ rest) (q ∷ more)
-more_only code place column row rest q more here there = search rules
+more_only : (code index column row : ℕ) (rest : List ℕ) (q : Placement) (more : List Placement) → HasNumbers code index column row q → AreThoseOf rest more
+    → AreThoseOf (code ∷ index ∷ column ∷ row ∷ rest) (q ∷ more)
+more_only code index column row rest q more here there = search rules
 
 placements_only : (numbers : List ℕ) (sequence : List Placement) → placements_in numbers ≡ Some sequence → AreThoseOf numbers sequence
 unfolding placements_in
@@ -99,15 +99,15 @@ pub read_all : (numbers : List ℕ) (read : List Placement) → HasRead numbers 
 unfolding placements_in
 read_all numbers read so_far = so_far.is
 
-pub read_more : (numbers : List ℕ) (read : List Placement) (code place column row : ℕ) (rest : List ℕ) (q : Placement) → placement_in code place column row ≡ Some q
-    → HasRead numbers read (code ∷ place ∷ column ∷ row ∷ rest) → HasRead numbers (read ++ q ∷ []) rest
+pub read_more : (numbers : List ℕ) (read : List Placement) (code index column row : ℕ) (rest : List ℕ) (q : Placement) → placement_in code index column row ≡ Some q
+    → HasRead numbers read (code ∷ index ∷ column ∷ row ∷ rest) → HasRead numbers (read ++ q ∷ []) rest
 unfolding placements_in
-read_more numbers read code place column row rest q here so_far = search (rules, append_assoc)
+read_more numbers read code index column row rest q here so_far = search (rules, append_assoc)
 
-pub not_read : (numbers : List ℕ) (read : List Placement) (code place column row : ℕ) (rest : List ℕ) → placement_in code place column row ≡ None
-    → HasRead numbers read (code ∷ place ∷ column ∷ row ∷ rest) → placements_in numbers ≡ None
+pub not_read : (numbers : List ℕ) (read : List Placement) (code index column row : ℕ) (rest : List ℕ) → placement_in code index column row ≡ None
+    → HasRead numbers read (code ∷ index ∷ column ∷ row ∷ rest) → placements_in numbers ≡ None
 unfolding placements_in
-not_read numbers read code place column row rest none so_far = so_far.is ∙ rw (none) refl
+not_read numbers read code index column row rest none so_far = so_far.is ∙ rw (none) refl
 
 -- ---- four numbers that stand first
 

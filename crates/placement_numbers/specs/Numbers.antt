@@ -3,12 +3,12 @@ use Rattle.std.specs.Prelude.{◌≡◌, ℕ, ◌≤◌, List, [], ◌∷◌, le
 use Rattle.std.specs.List.{flat_map}
 use Rattle.srs.specs.declared.placement.Placement.{Placement}
 use Rattle.srs.specs.Piece.{piece_code}
-use Rattle.srs.specs.Rotation.{rotation_place}
+use Rattle.srs.specs.Rotation.{rotation_index}
 
--- the code of the piece, the place of the rotation in the order 0, R, 2, L, and the column and the row of the pivot
+-- the code of the piece, the index of the rotation in the order 0, R, 2, L, and the column and the row of the pivot
 abbrev pub numbers_of : Placement → List ℕ
 numbers_of placement =
-    piece_code placement.piece ∷ rotation_place placement.rotation ∷ placement.x ∷ placement.y ∷ []
+    piece_code placement.piece ∷ rotation_index placement.rotation ∷ placement.x ∷ placement.y ∷ []
 
 abbrev pub sequence_numbers : List Placement → List ℕ
 sequence_numbers sequence = flat_map numbers_of sequence

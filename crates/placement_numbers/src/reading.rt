@@ -7,23 +7,23 @@ ghost use Rattle.placement_numbers.specs.Reading.{placement_in, rotation_at};
 use problem::Sequence;
 use srs::{Piece, Placement, Rotation};
 
-/// The rotation at this place of the order 0, R, 2, L, if there is one.
-fn rotation_at(place: u8) -> Option<Rotation>
-    ensures { result ≡ rotation_at place }
+/// The rotation with this index in the order 0, R, 2, L, if there is one.
+fn rotation_at(index: u8) -> Option<Rotation>
+    ensures { result ≡ rotation_at index }
 {
     Rotation::ALL
         .iter()
         .copied()
-        .find(|rotation| rotation.place() == place)
+        .find(|rotation| rotation.index() == index)
 }
 
 /// The placement with these four numbers and its pivot in the well, if there is one.
 #[tactic(auto, unfolding(crate::specs::Reading::placement_in))]
-fn placement_in(code: u8, place: u8, column: u8, row: u8) -> Option<Placement>
-    ensures { result ≡ placement_in code place column row }
+fn placement_in(code: u8, index: u8, column: u8, row: u8) -> Option<Placement>
+    ensures { result ≡ placement_in code index column row }
 {
     let piece = Piece::from_code(code)?;
-    let rotation = rotation_at(place)?;
+    let rotation = rotation_at(index)?;
     (column <= 9 && row <= 22).then_some(Placement {
         piece,
         rotation,
@@ -45,8 +45,8 @@ pub fn sequence_in(needed: u8, numbers: &[u8]) -> Option<Sequence>
     }
     let mut sequence = Sequence::new();
     let mut rest = numbers;
-    while let [code, place, column, row, behind @ ..] = rest {
-        sequence.push(placement_in(*code, *place, *column, *row)?);
+    while let [code, index, column, row, behind @ ..] = rest {
+        sequence.push(placement_in(*code, *index, *column, *row)?);
         rest = behind;
     }
     Some(sequence)

@@ -4,14 +4,14 @@ ghost use Rattle.placement_numbers.specs.Numbers.{numbers_of, sequence_numbers};
 
 use srs::Placement;
 
-/// The numbers of a placement: the code of its piece (1 to 7), the place of its rotation in the order 0, R, 2, L (0 to
+/// The numbers of a placement: the code of its piece (1 to 7), the index of its rotation in the order 0, R, 2, L (0 to
 /// 3), and the column and the row of its pivot.
 pub fn numbers_of(placement: &Placement) -> [u8; 4]
     ensures { result ≡ numbers_of placement.now }
 {
     [
         placement.piece.code(),
-        placement.rotation.place(),
+        placement.rotation.index(),
         placement.x,
         placement.y,
     ]

@@ -5,12 +5,12 @@ use Rattle.std.proofs.lemmas.List.Folds.{list_all-map}
 use Rattle.srs.specs.declared.piece.Piece.{Piece}
 use Rattle.srs.specs.declared.rotation.Rotation.{Rotation}
 use Rattle.srs.specs.declared.placement.Placement.{Placement}
-use Rattle.srs.specs.Rotation.{rotation_place}
+use Rattle.srs.specs.Rotation.{rotation_index}
 use Rattle.srs.specs.Cells.{Cell, moved, shape, cells_at, pivot_of, in_well, is_inside_of}
 use Rattle.srs.specs.SameCells.{is_among, SameCells, HasSameCells}
 use Rattle.srs.specs.Canonical.{IsCanonical, is_canonical, canonical_rotation, canonical_move}
 use Rattle.srs.proofs.CellLemmas.{apart_differ, is_among-all, moved-origin, origin, map-moved-moved, same_cells-moved, same_cells-sym, still_same}
-use Rattle.srs.proofs.CodeLemmas.{piece_code-injective, rotation_place-injective, same_placement}
+use Rattle.srs.proofs.CodeLemmas.{piece_code-injective, rotation_index-injective, same_placement}
 use Rattle.srs.proofs.BooleanLemmas.{and_first, and_second}
 use Rattle.srs.proofs.ShapeLemmas.{canonical_earlier, canonical_move_in_shape, canonical_rotation_own, canonical_shape, kinds_apart, pivot_in_shape, rotations_apart, shape_still}
 
@@ -32,12 +32,12 @@ pub same_cells-piece : (s t : Placement) → HasSameCells s t → s.piece ≡ t.
 same_cells-piece s t same =
     search (rules, cases_Bool, piece_code-injective, eqb-true, apart_differ, pivot_in_shape, kinds_apart)
 
-earlier_differs : (s t : Placement) → s.piece ≡ t.piece → IsCanonical t → HasSameCells s t → rotation_place s.rotation < rotation_place t.rotation → ⊥
+earlier_differs : (s t : Placement) → s.piece ≡ t.piece → IsCanonical t → HasSameCells s t → rotation_index s.rotation < rotation_index t.rotation → ⊥
 earlier_differs s t kind canonical same earlier = search rules
 
 one_rotation : (s t : Placement) → s.piece ≡ t.piece → IsCanonical s → IsCanonical t → HasSameCells s t → s.rotation ≡ t.rotation
 one_rotation s t kind first second same =
-    search (rules, rotation_place-injective, earlier_differs, same_cells-sym, cases_lt)
+    search (rules, rotation_index-injective, earlier_differs, same_cells-sym, cases_lt)
 
 -- one piece and one rotation have the same cells at one pivot only
 pub pivot_unique : (piece : Piece) (rotation : Rotation) (c d : Cell) → SameCells (cells_at piece rotation c) (cells_at piece rotation d) → c ≡ d

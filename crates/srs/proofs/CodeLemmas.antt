@@ -7,7 +7,7 @@ use Rattle.srs.specs.declared.rotation.Rotation.{Rotation}
 use Rattle.srs.specs.declared.rotation.Rotation.TheVariants.{Spawn}
 use Rattle.srs.specs.Piece.{piece_code, piece_with_code}
 use Rattle.srs.specs.declared.placement.Placement.{Placement}
-use Rattle.srs.specs.Rotation.{all_rotations, rotation_letter, rotation_place, rotation_with_letter}
+use Rattle.srs.specs.Rotation.{all_rotations, rotation_letter, rotation_index, rotation_with_letter}
 
 -- the piece with a piece's code is that piece
 pub piece_with_code-code : (p : Piece) → piece_with_code (piece_code p) ≡ Some p
@@ -16,15 +16,15 @@ piece_with_code-code p = search rules
 pub piece_code-injective : (p q : Piece) → piece_code p ≡ piece_code q → p ≡ q
 piece_code-injective p q e = ap (λ o. unwrap_or o I) (sym (piece_with_code-code p) ∙ ap piece_with_code e ∙ piece_with_code-code q)
 
--- the rotation at a place
+-- the rotation with an index
 abbrev rotation_at : ℕ → Option Rotation
-rotation_at place = find (λ rotation. rotation_place rotation == place) all_rotations
+rotation_at index = find (λ rotation. rotation_index rotation == index) all_rotations
 
-pub rotation_at-place : (r : Rotation) → rotation_at (rotation_place r) ≡ Some r
-rotation_at-place r = search rules
+pub rotation_at-index : (r : Rotation) → rotation_at (rotation_index r) ≡ Some r
+rotation_at-index r = search rules
 
-pub rotation_place-injective : (r s : Rotation) → rotation_place r ≡ rotation_place s → r ≡ s
-rotation_place-injective r s e = ap (λ o. unwrap_or o Spawn) (sym (rotation_at-place r) ∙ ap rotation_at e ∙ rotation_at-place s)
+pub rotation_index-injective : (r s : Rotation) → rotation_index r ≡ rotation_index s → r ≡ s
+rotation_index-injective r s e = ap (λ o. unwrap_or o Spawn) (sym (rotation_at-index r) ∙ ap rotation_at e ∙ rotation_at-index s)
 
 -- the rotation with a rotation's letter is that rotation
 pub rotation_with_letter-letter : (r : Rotation) → rotation_with_letter (rotation_letter r) ≡ Some r

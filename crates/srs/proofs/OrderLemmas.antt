@@ -9,9 +9,9 @@ use Rattle.std.specs.declared.cmp.Ordering.TheVariants.{Less, Equal}
 use Rattle.srs.proofs.RisingLemmas.{below_is_less}
 use Rattle.srs.specs.declared.placement.Placement.{Placement}
 use Rattle.srs.specs.Piece.{piece_code}
-use Rattle.srs.specs.Rotation.{rotation_place}
+use Rattle.srs.specs.Rotation.{rotation_index}
 use Rattle.srs.specs.Order.{placement_cmp, sequence_cmp}
-use Rattle.srs.proofs.CodeLemmas.{piece_code-injective, rotation_place-injective, same_placement}
+use Rattle.srs.proofs.CodeLemmas.{piece_code-injective, rotation_index-injective, same_placement}
 use Rattle.std.proofs.lemmas.Bool.{cases_order}
 
 pub then_assoc : (a b c : Ordering) → ordering_then (ordering_then a b) c ≡ ordering_then a (ordering_then b c)
@@ -36,12 +36,12 @@ less_is_below m n less = search (rules, then_less)
 pub placement_cmp-total : IsTotalOrder placement_cmp
 placement_cmp-total =
     then_total (on_total (λ (s : Placement). piece_code s.piece) nat_cmp_total)
-    (then_total (on_total (λ (s : Placement). rotation_place s.rotation) nat_cmp_total)
+    (then_total (on_total (λ (s : Placement). rotation_index s.rotation) nat_cmp_total)
     (then_total (on_total (λ (s : Placement). s.y) nat_cmp_total) (on_total (λ (s : Placement). s.x) nat_cmp_total)))
 
 pub placement_cmp-antisymmetric : IsAntisymmetric placement_cmp
 placement_cmp-antisymmetric s t e =
-    search (rules, then_second, same_placement, piece_code-injective, nat_cmp-IsAntisymmetric, then_first, rotation_place-injective)
+    search (rules, then_second, same_placement, piece_code-injective, nat_cmp-IsAntisymmetric, then_first, rotation_index-injective)
 
 pub placement_cmp-equal : (s t : Placement) → (placement_cmp s t ≡ Equal) ↔ (s ≡ t)
 placement_cmp-equal s t = (placement_cmp-antisymmetric s t, λ e. ap (placement_cmp s) (sym e) ∙ tied_itself placement_cmp-total s)

@@ -13,7 +13,7 @@ use Rattle.srs.specs.declared.rotation.Rotation.{Rotation}
 use Rattle.srs.specs.declared.rotation.Rotation.TheVariants.{Spawn, Right, Reverse, Left}
 use Rattle.srs.specs.declared.placement.Placement.{Placement}
 use Rattle.srs.specs.Piece.{piece_code}
-use Rattle.srs.specs.Rotation.{all_rotations, rotation_place}
+use Rattle.srs.specs.Rotation.{all_rotations, rotation_index}
 use Rattle.srs.specs.Cells.{is_inside_of}
 use Rattle.srs.specs.Canonical.{is_canonical}
 use Rattle.srs.specs.Order.{placement_cmp}
@@ -34,20 +34,20 @@ row_of p r y = map (state p r y) (range_with_len 0 10)
 abbrev rows_of : Piece → Rotation → List Placement
 rows_of p r = flat_map (row_of p r) (range_with_len 0 23)
 
-abbrev by_place : Rotation → Rotation → Ordering
-by_place r s = nat_cmp (rotation_place r) (rotation_place s)
+abbrev by_index : Rotation → Rotation → Ordering
+by_index r s = nat_cmp (rotation_index r) (rotation_index s)
 
 tied : (n : ℕ) → nat_cmp n n ≡ Equal
 tied n = tied_itself nat_cmp_total n
 
 earlier_column : (p : Piece) (r : Rotation) (y j k : ℕ) → nat_cmp j k ≡ Less → placement_cmp (state p r y j) (state p r y k) ≡ Less
-earlier_column p r y j k e = λ i. ordering_then (tied (piece_code p) i) (ordering_then (tied (rotation_place r) i) (ordering_then (tied y i) (e i)))
+earlier_column p r y j k e = λ i. ordering_then (tied (piece_code p) i) (ordering_then (tied (rotation_index r) i) (ordering_then (tied y i) (e i)))
 
 earlier_row : (p : Piece) (r : Rotation) (j k : ℕ) → nat_cmp j k ≡ Less → (s t : Placement) → Contains (row_of p r j) s → Contains (row_of p r k) t → placement_cmp s t ≡ Less
 earlier_row p r j k e s t in_j in_k =
-    search (rules, (Contains-from_map (state p r j) (range_with_len 0 10) s in_j), (Contains-from_map (state p r k) (range_with_len 0 10) t in_k), (tied (piece_code p)), (tied (rotation_place r)))
+    search (rules, (Contains-from_map (state p r j) (range_with_len 0 10) s in_j), (Contains-from_map (state p r k) (range_with_len 0 10) t in_k), (tied (piece_code p)), (tied (rotation_index r)))
 
-earlier_rotation : (p : Piece) (q r : Rotation) → by_place q r ≡ Less → (s t : Placement) → Contains (rows_of p q) s → Contains (rows_of p r) t → placement_cmp s t ≡ Less
+earlier_rotation : (p : Piece) (q r : Rotation) → by_index q r ≡ Less → (s t : Placement) → Contains (rows_of p q) s → Contains (rows_of p r) t → placement_cmp s t ≡ Less
 earlier_rotation p q r e s t in_q in_r =
     let v = Contains-from_flat_map (row_of p q) (range_with_len 0 23) s in_q in
     let w = Contains-from_flat_map (row_of p r) (range_with_len 0 23) t in_r in
@@ -57,13 +57,13 @@ earlier_rotation p q r e s t in_q in_r =
     λ i. ordering_then (tied (piece_code p) i) (ordering_then (e i) (ordering_then (nat_cmp v.0 w.0) (nat_cmp x.0 y.0))) in
     subst (λ s. placement_cmp s t ≡ Less) x.2 (subst (λ t. placement_cmp (state p q v.0 x.0) t ≡ Less) y.2 less)
 
-rotations_rise : IsStrictlySortedBy by_place all_rotations
+rotations_rise : IsStrictlySortedBy by_index all_rotations
 unfolding IsStrictlySortedBy
 rotations_rise = ((refl, (refl, (refl, tt))), ((refl, (refl, tt)), ((refl, tt), (tt, tt))))
 
 pub placements_by_pivot-rising : (p : Piece) → IsStrictlySortedBy placement_cmp (placements_by_pivot p)
 placements_by_pivot-rising p =
-    search (rules, (rising-flat_map by_place placement_cmp (rows_of p) all_rotations rotations_rise), (earlier_rotation p), (rising-map nat_cmp placement_cmp), (rising-range 0 10), (earlier_column p), (rising-flat_map nat_cmp placement_cmp), (rising-range 0 23), (earlier_row p))
+    search (rules, (rising-flat_map by_index placement_cmp (rows_of p) all_rotations rotations_rise), (earlier_rotation p), (rising-map nat_cmp placement_cmp), (rising-range 0 10), (earlier_column p), (rising-flat_map nat_cmp placement_cmp), (rising-range 0 23), (earlier_row p))
 
 -- each rotation is among all
 in_all_rotations : (r : Rotation) → Contains all_rotations r

@@ -7,7 +7,7 @@ use Rattle.srs.specs.declared.piece.Piece.{Piece}
 use Rattle.srs.specs.declared.rotation.Rotation.{Rotation}
 use Rattle.srs.specs.declared.placement.Placement.{Placement}
 use Rattle.srs.specs.Piece.{all_pieces, piece_code}
-use Rattle.srs.specs.Rotation.{all_rotations, rotation_place}
+use Rattle.srs.specs.Rotation.{all_rotations, rotation_index}
 use Rattle.srs.specs.Cells.{moved, shape, cells_of, pivot_of, is_near}
 use Rattle.srs.specs.SameCells.{is_among, SameCells}
 use Rattle.srs.specs.Canonical.{canonical_rotation, canonical_move, rotation_count}
@@ -33,8 +33,8 @@ piece_code-some piece = leb-true _ _ (each_piece (λ p. nat_le 1 (piece_code p))
 pub piece_code-small : (piece : Piece) → piece_code piece ≤ 7
 piece_code-small piece = leb-true _ _ (each_piece (λ p. nat_le (piece_code p) 7) refl piece)
 
-pub rotation_place-small : (rotation : Rotation) → rotation_place rotation < 4
-rotation_place-small rotation = ltb-true _ _ (each_rotation (λ r. nat_lt (rotation_place r) 4) refl rotation)
+pub rotation_index-small : (rotation : Rotation) → rotation_index rotation < 4
+rotation_index-small rotation = ltb-true _ _ (each_rotation (λ r. nat_lt (rotation_index r) 4) refl rotation)
 
 -- each placement has four cells
 pub shape_length : (piece : Piece) (rotation : Rotation) → length (shape piece rotation) ≡ 4
@@ -67,7 +67,7 @@ unfolding is_among moved fits is_apart
 kinds_apart p r q s other = or_second _ _ other (each_state (λ q s. piece_code p == piece_code q || is_apart (shape p r) (shape q s)) (each_state (λ p r. list_all (λ q. list_all (λ s. piece_code p == piece_code q || is_apart (shape p r) (shape q s)) all_rotations) all_pieces) refl p r) q s)
 
 -- the rotations that a piece has cells of its own in are apart from each earlier one
-pub rotations_apart : (p : Piece) (r s : Rotation) → nat_lt (rotation_place s) (rotation_count p) ≡ true → nat_lt (rotation_place r) (rotation_place s) ≡ true → is_apart (shape p r) (shape p s) ≡ true
+pub rotations_apart : (p : Piece) (r s : Rotation) → nat_lt (rotation_index s) (rotation_count p) ≡ true → nat_lt (rotation_index r) (rotation_index s) ≡ true → is_apart (shape p r) (shape p s) ≡ true
 unfolding is_among moved fits is_apart
 rotations_apart p r s own earlier = search (rules, each_rotation, each_state, and_from)
 
@@ -76,12 +76,12 @@ unfolding is_among moved fits is_still origin
 shape_still = each_state (λ p r. is_still (shape p r)) refl
 
 -- a rotation has cells of its own, or the canonical one is earlier
-pub canonical_earlier : (p : Piece) (r : Rotation) → nat_lt (rotation_place r) (rotation_count p) ≡ false → nat_lt (rotation_place (canonical_rotation p r)) (rotation_place r) ≡ true
-canonical_earlier p r other = or_second _ _ other (each_state (λ p r. nat_lt (rotation_place r) (rotation_count p) || nat_lt (rotation_place (canonical_rotation p r)) (rotation_place r)) refl p r)
+pub canonical_earlier : (p : Piece) (r : Rotation) → nat_lt (rotation_index r) (rotation_count p) ≡ false → nat_lt (rotation_index (canonical_rotation p r)) (rotation_index r) ≡ true
+canonical_earlier p r other = or_second _ _ other (each_state (λ p r. nat_lt (rotation_index r) (rotation_count p) || nat_lt (rotation_index (canonical_rotation p r)) (rotation_index r)) refl p r)
 
 -- the canonical rotation has cells of its own
-pub canonical_rotation_own : (p : Piece) (r : Rotation) → nat_lt (rotation_place (canonical_rotation p r)) (rotation_count p) ≡ true
-canonical_rotation_own = each_state (λ p r. nat_lt (rotation_place (canonical_rotation p r)) (rotation_count p)) refl
+pub canonical_rotation_own : (p : Piece) (r : Rotation) → nat_lt (rotation_index (canonical_rotation p r)) (rotation_count p) ≡ true
+canonical_rotation_own = each_state (λ p r. nat_lt (rotation_index (canonical_rotation p r)) (rotation_count p)) refl
 
 -- no cell is more than two columns or rows from the pivot
 pub shape_near : (p : Piece) (r : Rotation) → list_all is_near (shape p r) ≡ true

@@ -6,12 +6,12 @@ use Rattle.srs.specs.declared.rotation.Rotation.{Rotation}
 use Rattle.srs.specs.declared.rotation.Rotation.TheVariants.{Spawn, Right, Reverse, Left}
 use Rattle.srs.specs.declared.placement.Placement.{Placement}
 use Rattle.srs.specs.Cells.{Cell, minus, cells_at, cells_of}
-use Rattle.srs.specs.Rotation.{rotation_place}
+use Rattle.srs.specs.Rotation.{rotation_index}
 use Rattle.srs.specs.SameCells.{SameCells}
 
 -- no other rotation, earlier in the order 0, R, 2, L, has the same cells, wherever its pivot is
 pub record IsCanonical (placement : Placement) : Type 0 where
-  pub earliest : (rotation : Rotation) (pivot : Cell) → rotation_place rotation < rotation_place placement.rotation
+  pub earliest : (rotation : Rotation) (pivot : Cell) → rotation_index rotation < rotation_index placement.rotation
       → SameCells (cells_at placement.piece rotation pivot) (cells_of placement) → ⊥
 
 -- how many rotations of a piece have cells of their own: the first so many in the order
@@ -24,7 +24,7 @@ rotation_count _ = 4
 
 -- the test of `IsCanonical`
 abbrev pub is_canonical : Placement → Bool
-is_canonical placement = nat_lt (rotation_place placement.rotation) (rotation_count placement.piece)
+is_canonical placement = nat_lt (rotation_index placement.rotation) (rotation_count placement.piece)
 
 -- the earliest rotation with the same cells
 abbrev pub canonical_rotation : Piece → Rotation → Rotation

@@ -9,7 +9,7 @@ use Rattle.srs.specs.declared.offset.Offset.{Offset}
 use Rattle.srs.specs.Cells.{Cell, minus}
 use Rattle.srs.specs.SameCells.{cells_eq}
 use Rattle.srs.specs.Piece.{all_pieces, piece_code}
-use Rattle.srs.specs.Rotation.{all_rotations, rotation_place}
+use Rattle.srs.specs.Rotation.{all_rotations, rotation_index}
 
 -- the five offsets of each piece in each rotation, in the order of the tests
 abbrev pub Table : Type 0
@@ -51,7 +51,7 @@ kicks_of table piece from to =
 -- the offsets of one piece with one of them changed
 abbrev pub turns_with : (Rotation → List Cell) → Rotation → ℕ → Cell → Rotation → List Cell
 turns_with turns rotation test offset r =
-    if rotation_place r == rotation_place rotation then slice_set (turns r) (test - 1) offset else turns r
+    if rotation_index r == rotation_index rotation then slice_set (turns r) (test - 1) offset else turns r
 
 -- the table with one offset changed
 abbrev pub table_with : Table → Piece → Rotation → ℕ → Cell → Table

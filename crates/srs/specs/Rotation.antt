@@ -7,12 +7,12 @@ use Rattle.srs.specs.declared.rotation.Rotation.TheVariants.{Spawn, Right, Rever
 abbrev pub all_rotations : List Rotation
 all_rotations = Spawn ∷ Right ∷ Reverse ∷ Left ∷ []
 
--- the place of a rotation in the order 0, R, 2, L
-abbrev pub rotation_place : Rotation → ℕ
-rotation_place Spawn = 0
-rotation_place Right = 1
-rotation_place Reverse = 2
-rotation_place Left = 3
+-- the index of a rotation in the order 0, R, 2, L
+abbrev pub rotation_index : Rotation → ℕ
+rotation_index Spawn = 0
+rotation_index Right = 1
+rotation_index Reverse = 2
+rotation_index Left = 3
 
 -- the letter `0`, `R`, `2` or `L`, as its ASCII code
 abbrev pub rotation_letter : Rotation → ℕ

@@ -15,7 +15,7 @@ pub fn compare(left: &Placement, right: &Placement) -> Ordering
     left.piece
         .code()
         .cmp(&right.piece.code())
-        .then(left.rotation.place().cmp(&right.rotation.place()))
+        .then(left.rotation.index().cmp(&right.rotation.index()))
         .then(left.y.cmp(&right.y))
         .then(left.x.cmp(&right.x))
 }

@@ -1,6 +1,6 @@
 // The four rotations of a piece, their letters and their neighbours.
 ghost use Rattle.std.specs.Prelude.{◌≡◌};
-ghost use Rattle.srs.specs.Rotation.{rotation_place, rotation_letter, rotation_with_letter, clockwise_of, anticlockwise_of};
+ghost use Rattle.srs.specs.Rotation.{rotation_index, rotation_letter, rotation_with_letter, clockwise_of, anticlockwise_of};
 
 /// A rotation of a piece: as it spawns, or turned from there by a quarter clockwise, by a half, or by a quarter
 /// anticlockwise.
@@ -23,8 +23,8 @@ impl Rotation {
     ];
 
     /// The index in the order 0, R, 2, L, from 0 to 3.
-    pub fn place(self) -> u8
-        ensures { result ≡ rotation_place self }
+    pub fn index(self) -> u8
+        ensures { result ≡ rotation_index self }
     {
         match self {
             Rotation::Spawn => 0,

@@ -7,7 +7,7 @@ use Rattle.srs.specs.declared.piece.Piece.{Piece}
 use Rattle.srs.specs.declared.rotation.Rotation.{Rotation}
 use Rattle.srs.specs.declared.placement.Placement.{Placement}
 use Rattle.srs.specs.Cells.{minus}
-use Rattle.srs.specs.Rotation.{rotation_place, clockwise_of, anticlockwise_of}
+use Rattle.srs.specs.Rotation.{rotation_index, clockwise_of, anticlockwise_of}
 use Rattle.srs.specs.Kick.{Table, kicks_of}
 use Rattle.moves.specs.declared.key.Key.{Key}
 use Rattle.moves.specs.declared.key.Key.TheVariants.{Left, Right, Down, Clockwise, Anti}
@@ -26,7 +26,7 @@ use Rattle.whole_flood.proofs.TurnLemmas.{Arrives, arrives, reaches}
 -- a key that turns from one rotation to another
 record IsTurn (key : Key) (from to : Rotation) : Type 0 where
   allowed : (mode : DropMode) → IsTrue (allows mode key)
-  apart : (rotation_place from == rotation_place to) ≡ false
+  apart : (rotation_index from == rotation_index to) ≡ false
   step : (table : Table) (free : States) (piece : Piece) (x y : ℕ) → step_in table free (state_of piece from x y) key ≡ turned_in table free (state_of piece from x y) to
 
 clockwise_turn : (r : Rotation) → IsTurn Clockwise r (clockwise_of r)

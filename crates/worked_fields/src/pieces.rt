@@ -57,7 +57,7 @@ fn pieces_of_codes_and_letters(rt: HostRuntime) {
 #[test]
 fn rotations_have_letters_and_neighbours(rt: HostRuntime) {
     assert!(rt; Rotation::ALL.map(|rotation| rotation.letter()) == *b"0R2L");
-    assert!(rt; Rotation::ALL.map(|rotation| rotation.place()) == [0, 1, 2, 3]);
+    assert!(rt; Rotation::ALL.map(|rotation| rotation.index()) == [0, 1, 2, 3]);
     assert!(rt; Rotation::from_letter(b'2') == Some(Rotation::Reverse));
     assert!(rt; Rotation::from_letter(b'l') == None);
     assert!(rt; Rotation::Left.clockwise() == Rotation::Spawn);

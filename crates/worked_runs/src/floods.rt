@@ -13,7 +13,7 @@ use well::Well;
 type Met = Vec<bool>;
 
 fn index(placement: &Placement) -> usize {
-    (usize::from(placement.rotation.place()) * 23 + usize::from(placement.y)) * 10
+    (usize::from(placement.rotation.index()) * 23 + usize::from(placement.y)) * 10
         + usize::from(placement.x)
 }
 

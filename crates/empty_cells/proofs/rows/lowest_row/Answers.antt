@@ -1,4 +1,4 @@
--- The place of the lowest bit.
+-- The index of the lowest bit.
 use Rattle.std.proofs.Common.{w8, ◌==◌, ap, arith}
 use Rattle.std.proofs.lemmas.Nat.Bits.{bit_at-trailing_zeros}
 use Rattle.lane_board.specs.Lanes.{has_bit}

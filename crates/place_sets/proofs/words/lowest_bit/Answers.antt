@@ -1,4 +1,4 @@
--- The zeros below the lowest bit are its place.
+-- As many zeros stand below the lowest bit as its index says.
 use Rattle.place_sets.proofs.WordLemmas.{lowest-is}
 use Rattle.place_sets.proofs.words.lowest_bit.Goals as goal
 

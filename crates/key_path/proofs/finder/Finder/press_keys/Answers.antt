@@ -6,7 +6,7 @@ use Rattle.srs.specs.Rules.{table_of}
 use Rattle.well.specs.Well.{filled}
 use Rattle.key_path.specs.Marks.{new_state}
 use Rattle.key_path.specs.Search.{IsTrying}
-use Rattle.key_path.proofs.WordLemmas.{key_at, key_place-at}
+use Rattle.key_path.proofs.WordLemmas.{key_at, key_index-at}
 use Rattle.moves.proofs.CallerLemmas.{pivot_of_free}
 use Rattle.key_path.proofs.FindLemmas.{pushed, new_free, new_counts, finding_next, trying_free, trying_kind, trying_same, trying_new, new_fits, new_reached}
 use Rattle.key_path.proofs.finder.Finder.press_keys.Goals as goal
@@ -22,7 +22,7 @@ new_state-requires-clause-free c =
 
 pub loop-key-preserved-in_default : goal.loop-key-preserved-in_default
 loop-key-preserved-in_default c =
-    search (rules, (trying_same (table_of c.args.rules.now) (filled c.args.states.now.well) c.args.drop_mode c.args.aim.now c.requires.free c.loop-key.marks.marks c.loop-key.self.waiting.items c.args.state.now c.loop-key.key-index (key_at c.loop-key.key-index) (key_place-at c.loop-key.key-index c.loop-key-test.true) (sym c.new_state.ensures ∙ c.in_default.is) c.loop-key.invariant.0))
+    search (rules, (trying_same (table_of c.args.rules.now) (filled c.args.states.now.well) c.args.drop_mode c.args.aim.now c.requires.free c.loop-key.marks.marks c.loop-key.self.waiting.items c.args.state.now c.loop-key.key-index (key_at c.loop-key.key-index) (key_index-at c.loop-key.key-index c.loop-key-test.true) (sym c.new_state.ensures ∙ c.in_default.is) c.loop-key.invariant.0))
 
 pub set-requires : goal.set-requires
 set-requires c =
@@ -46,7 +46,7 @@ returns-then-rests_on c = (
       (new_free (table_of c.args.rules.now) (filled c.args.states.now.well) c.args.drop_mode c.args.aim.now c.requires.free c.loop-key.marks.marks c.loop-key.self.waiting.items c.args.state.now c.loop-key.key-index (key_at c.loop-key.key-index) c.in-Some.next
       (sym c.new_state.ensures ∙ c.in-Some.is) c.loop-key.invariant.0).free,
   new_reached (table_of c.args.rules.now) (filled c.args.states.now.well) c.args.drop_mode c.args.aim.now c.requires.free c.loop-key.marks.marks c.set.new.self.marks c.loop-key.self.waiting.items c.args.state.now c.loop-key.key-index (key_at c.loop-key.key-index) c.in-Some.next
-      (key_place-at c.loop-key.key-index c.loop-key-test.true) (sym c.new_state.ensures ∙ c.in-Some.is) (sym c.rests_on.ensures ∙ c.if-rests_on.true) c.set.ensures c.loop-key.invariant.0,
+      (key_index-at c.loop-key.key-index c.loop-key-test.true) (sym c.new_state.ensures ∙ c.in-Some.is) (sym c.rests_on.ensures ∙ c.if-rests_on.true) c.set.ensures c.loop-key.invariant.0,
 )
 
 pub loop-key-preserved : goal.loop-key-preserved
@@ -57,7 +57,7 @@ loop-key-preserved c =
     pushed c.loop-key.self.waiting c.push_back.new.self c.in-Some.next c.push_back.ensures.items (omega (arith, fits, c.loop-key.self.room)) in
     let counts = new_counts (table_of c.args.rules.now) (filled c.args.states.now.well) c.args.drop_mode c.args.aim.now c.loop-key.marks.marks c.set.new.self.marks c.loop-key.self.waiting.items c.args.state.now c.loop-key.key-index (key_at c.loop-key.key-index) c.in-Some.next found c.set.ensures c.loop-key.invariant.0 in (
       trying_new (table_of c.args.rules.now) (filled c.args.states.now.well) c.args.drop_mode c.args.aim.now c.requires.free c.loop-key.marks.marks c.set.new.self.marks c.loop-key.self.waiting.items c.push_back.new.self.items c.args.state.now c.loop-key.key-index (key_at c.loop-key.key-index) c.in-Some.next
-          (key_place-at c.loop-key.key-index c.loop-key-test.true) found (sym c.rests_on.ensures ∙ c.if-rests_on.false) c.set.ensures waits c.loop-key.invariant.0,
+          (key_index-at c.loop-key.key-index c.loop-key-test.true) found (sym c.rests_on.ensures ∙ c.if-rests_on.false) c.set.ensures waits c.loop-key.invariant.0,
       omega (arith, c.loop-key.invariant.1, counts, ap (λ (xs : List Placement). length xs) waits, length-append c.loop-key.self.waiting.items (c.in-Some.next ∷ [])),
     )
 

@@ -1,4 +1,4 @@
--- The first state from the place after the bound is the least one above the bound.
+-- The first state after the bound is the least one above the bound.
 use Rattle.std.proofs.Common.{ap, rules}
 use Rattle.std.specs.Option.{option_copied}
 use Rattle.place_sets.proofs.ScanLemmas.{next_of_all_by, next_above_by}
