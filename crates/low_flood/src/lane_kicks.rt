@@ -72,7 +72,7 @@ fn canonical_columns(piece: Piece, rotation: Rotation) -> i8
 
 /// How many rows the lowest cell lies above the pivot.
 #[inline(always)]
-fn lowest_row(piece: Piece, rotation: Rotation) -> i8
+pub(crate) fn lowest_row(piece: Piece, rotation: Rotation) -> i8
     ensures rows { result ≡ lowest (shape piece rotation) }
     ensures low { minus 2 ≤ℤ result }
     ensures high { result ≤ℤ pos 0 }

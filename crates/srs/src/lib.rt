@@ -21,5 +21,5 @@ pub use piece::Piece;
 pub use placement::Placement;
 pub use rotation::Rotation;
 pub use rules::Rules;
-pub use shapes::{cells, is_inside};
+pub use shapes::{cells, is_inside, shape};
 pub use symmetry::canonical;

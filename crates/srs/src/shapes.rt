@@ -13,7 +13,7 @@ pub fn cells(placement: &Placement) -> [(i8, i8); 4]
     requires row { placement.now.y ≤ 31 }
     ensures { result ≡ cells_of placement.now }
 {
-    let [a, b, c, d] = offsets(placement.piece, placement.rotation);
+    let [a, b, c, d] = shape(placement.piece, placement.rotation);
     let pivot = (placement.x as i8, placement.y as i8);
     [
         cell_at(pivot, a),
@@ -53,8 +53,9 @@ pub fn cell_at(pivot: (i8, i8), offset: (i8, i8)) -> (i8, i8)
     (pivot.0 + offset.0, pivot.1 + offset.1)
 }
 
-/// The offsets of the four cells of a piece from its pivot.
-fn offsets(piece: Piece, rotation: Rotation) -> [(i8, i8); 4]
+/// The shape of a piece in a rotation: the four cells as pairs of column and row, counted from the pivot.
+#[inline(always)]
+pub fn shape(piece: Piece, rotation: Rotation) -> [(i8, i8); 4]
     ensures shape { result ≡ shape piece rotation }
     ensures near { IsTrue (list_all is_near result) }
 {

@@ -5,4 +5,4 @@ use Rattle.srs.proofs.BooleanLemmas.{list_all_each}
 use Rattle.srs.proofs.shapes.cells.Goals as goal
 
 pub cell_at-requires-4-clause-near : goal.cell_at-requires-4-clause-near
-cell_at-requires-4-clause-near c = list_all_each is_near c.offsets.result 3 _ c.offsets.ensures.near (omega arith)
+cell_at-requires-4-clause-near c = list_all_each is_near c.shape.result 3 _ c.shape.ensures.near (omega arith)
