@@ -4,6 +4,7 @@ mod LaneTurns
 mod LaneClosed
 pub mod CallerLemmas
 mod ClassLemmas
+mod ShapeLemmas
 mod LaneMaps
 mod LanePlaceLemmas
 mod LowLemmas
