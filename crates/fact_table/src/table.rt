@@ -105,4 +105,16 @@ impl<E: Entry> FactTable<E> {
             entries[slot] = entry;
         }
     }
+
+    /// Makes each entry say nothing. The room stays.
+    pub fn forget(&mut self, alloc: Global)
+        ensures room { length self.new ≡ length self.old }
+        ensures nothing { All E.says_nothing self.new }
+    {
+        if let Some(entries) = &mut self.entries {
+            for slot in 0..entries.len() {
+                entries[slot] = E::nothing(alloc);
+            }
+        }
+    }
 }
