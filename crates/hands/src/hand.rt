@@ -12,23 +12,16 @@ use queue_pattern::Queue;
 use srs::Piece;
 use std::alloc::Global;
 
-/// The first `count` pieces, or all if there are fewer.
-fn front(pieces: &[Piece], count: usize) -> &[Piece]
-    ensures value { result.now ≡ take count pieces.now }
-    ensures short { length result.now ≤ count }
+/// The number of the first `count` pieces, or of all if there are fewer.
+fn number_of(pieces: &[Piece], count: usize) -> u64
+    requires { count ≤ 21 }
+    ensures value { result ≡ Hands.number_of (take count pieces.now) }
+    ensures below { result < 8 ^ count }
 {
-    &pieces[..count.min(pieces.len())]
-}
-
-/// The number of up to 21 pieces.
-fn number_of(pieces: &[Piece]) -> u64
-    requires { length pieces.now ≤ 21 }
-    ensures value { result ≡ Hands.number_of pieces.now }
-    ensures below { result < 8 ^ length pieces.now }
-{
+    let first = &pieces[..count.min(pieces.len())];
     let mut number = 0;
-    for index in (0..pieces.len()).rev() {
-        number = number * 8 + u64::from(pieces[index].code());
+    for index in (0..first.len()).rev() {
+        number = number * 8 + u64::from(first[index].code());
     }
     number
 }
@@ -41,11 +34,11 @@ pub fn hand_of(hold: Hold, held: Option<Piece>, placements: u8, queue: &Queue) -
     let placements = usize::from(placements);
     let pieces = queue.as_slice();
     if let Hold::Avoided = hold {
-        return number_of(front(pieces, placements));
+        return number_of(pieces, placements);
     }
     match held {
-        None => number_of(front(pieces, placements + 1)),
-        Some(piece) => u64::from(piece.code()) + 8 * number_of(front(pieces, placements)),
+        None => number_of(pieces, placements + 1),
+        Some(piece) => u64::from(piece.code()) + 8 * number_of(pieces, placements),
     }
 }
 

@@ -1,5 +1,5 @@
 -- The pieces that are reached are the first of those at hand.
-use Rattle.std.proofs.Common.{◌≡◌, ℕ, suc, ◌+◌, ◌*◌, ◌^◌, ◌≤◌, length, take, refl, ap, ◌∙◌, sym, arith}
+use Rattle.std.proofs.Common.{◌≡◌, ℕ, suc, ◌+◌, ◌*◌, ◌^◌, ◌≤◌, take, refl, ap, ◌∙◌, sym, arith}
 use Rattle.std.proofs.Math.Nat.{pow-le-pow_right}
 use Rattle.hold_queue.specs.declared.hold.Hold.{Hold}
 use Rattle.hold_queue.specs.declared.hold.Hold.TheVariants.{Allowed, Avoided}
@@ -37,27 +37,27 @@ allowed Avoided other = absurd (other refl)
 
 pub returns-in-Avoided : goal.returns-in-Avoided
 returns-in-Avoided c =
-    c.number_of.ensures.value ∙ ap number_of (c.front.ensures.value ∙ (λ i. take (c.from-placements.ensures i) (c.as_slice-pieces.ensures.value i)))
+    c.number_of.ensures.value ∙ (λ i. number_of (take (c.from-placements.ensures i) (c.as_slice-pieces.ensures.value i)))
     ∙ front c.args.hold c.args.held c.args.placements c.args.queue.now.items c.in-Avoided.is
 
 pub returns-in-None : goal.returns-in-None
 returns-in-None c =
-    c.number_of-in-None.ensures.value ∙ ap number_of (c.front-in-None.ensures.value ∙ (λ i. take (c.from-placements.ensures i + 1) (c.as_slice-pieces.ensures.value i)))
+    c.number_of-in-None.ensures.value ∙ (λ i. number_of (take (c.from-placements.ensures i + 1) (c.as_slice-pieces.ensures.value i)))
     ∙ one_more c.args.hold c.args.held c.args.placements c.args.queue.now.items (allowed c.args.hold c.in_default.not-Avoided) c.in-None.is
 
 pub returns-in-Some : goal.returns-in-Some
 returns-in-Some c =
-    (λ i. (c.from.ensures ∙ c.code.ensures) i + 8 * (c.number_of-in-Some.ensures.value ∙ ap number_of (c.front-in-Some.ensures.value ∙ (λ j. take (c.from-placements.ensures j) (c.as_slice-pieces.ensures.value j)))) i)
+    (λ i. (c.from.ensures ∙ c.code.ensures) i + 8 * (c.number_of-in-Some.ensures.value ∙ (λ j. number_of (take (c.from-placements.ensures j) (c.as_slice-pieces.ensures.value j)))) i)
     ∙ with_held c.args.hold c.args.held c.in-Some.piece c.args.placements c.args.queue.now.items (allowed c.args.hold c.in_default.not-Avoided) c.in-Some.is
 
 pub overflow_mul-result : goal.overflow_mul-result
 overflow_mul-result c =
     let below = c.number_of-in-Some.ensures.below in
-    let few : 8 ^ length c.front-in-Some.result.now ≤ 8 ^ 20 = pow-le-pow_right {n = 8} (omega arith) {i = length c.front-in-Some.result.now} {j = 20} (omega (arith, c.front-in-Some.ensures.short, c.from-placements.ensures, c.requires)) in
+    let few : 8 ^ c.from-placements.result ≤ 8 ^ 20 = pow-le-pow_right {n = 8} (omega arith) {i = c.from-placements.result} {j = 20} (omega (arith, c.from-placements.ensures, c.requires)) in
     omega (arith, below, few)
 
 pub overflow_add-result : goal.overflow_add-result
 overflow_add-result c =
     let below = c.number_of-in-Some.ensures.below in
-    let few : 8 ^ length c.front-in-Some.result.now ≤ 8 ^ 20 = pow-le-pow_right {n = 8} (omega arith) {i = length c.front-in-Some.result.now} {j = 20} (omega (arith, c.front-in-Some.ensures.short, c.from-placements.ensures, c.requires)) in
+    let few : 8 ^ c.from-placements.result ≤ 8 ^ 20 = pow-le-pow_right {n = 8} (omega arith) {i = c.from-placements.result} {j = 20} (omega (arith, c.from-placements.ensures, c.requires)) in
     omega (arith, below, few, c.from.ensures, c.code.type_inv)
