@@ -27,13 +27,13 @@ use Rattle.enumerate.specs.declared.frame.Frame.{Frame}
 use Rattle.enumerate.specs.declared.setup.Setup.{Setup}
 use Rattle.enumerate.specs.Events.{Event, entered, enter}
 use Rattle.enumerate.specs.Frames.{places_left}
-use Rattle.enumerate.specs.Setups.{LeadsOn, position_of}
+use Rattle.enumerate.specs.Setups.{LeadsOn, state_of}
 use Rattle.enumerate.specs.Standing.{may_lock}
-use Rattle.enumerate.specs.Position.{after_of, is_live}
-use Rattle.enumerate.specs.Turns.{AreDead}
+use Rattle.enumerate.specs.SearchState.{after_of, is_live}
+use Rattle.enumerate.specs.Tries.{AreDead}
 use Rattle.enumerate.proofs.PlaceLaws.{lockable_free, lockable-piece}
 use Rattle.enumerate.proofs.TilingLaws.{left-tiled, live-after}
-use Rattle.enumerate.proofs.TurnLemmas.{enters-dead}
+use Rattle.enumerate.proofs.TryLemmas.{enters-dead}
 
 module _ (f : Placement → List Event) (a b : Placement → Bool) (same : (q : Placement) → (if a q then f q else []) ≡ (if b q then f q else [])) where
   first : (c : Placement → Bool) (q : Placement) (qs : List Placement) → flat_map f (filter c (q ∷ qs)) ≡ (if c q then f q else []) ++ flat_map f (filter c qs)
@@ -48,9 +48,9 @@ without_dead held dead above events none = search rules
 
 module _ (setup : Setup) (piece : Piece) (some : 1 ≤ setup.left) (supply : SupplyWord)
     (moves : (other : Piece) → supply_of supply other ≡ min setup.left (less_one (supply_of setup.supply) piece other)) where
-  -- the position after a placement is live where what it leaves has a tiling
+  -- the state after a placement is live where what it leaves has a tiling
   after-tiled : (q : Placement) → q.piece ≡ piece → may_lock (filled setup.well) piece q ≡ true → is_below setup.rows q ≡ true → (table : Table) (mode : DropMode) →
-      is_live (setup.left - 1) (after_of (position_of table mode setup) q) ≡ leaves_tiling (empty_cells setup.empties) q (supply_of supply)
+      is_live (setup.left - 1) (after_of (state_of table mode setup) q) ≡ leaves_tiling (empty_cells setup.empties) q (supply_of supply)
   after-tiled q of_kind lockable below table mode =
       let E = without_placement (empty_cells setup.empties) q in
       live-after table mode setup q (supply_of supply) (λ other. moves other ∙ ap (λ (p : Piece). min setup.left (less_one (supply_of setup.supply) p other)) (sym of_kind)) (setup.left - 1) (omega (arith, some))
@@ -74,14 +74,14 @@ module _ (frame : Frame) (places : LowPlaces) (is : frame.places ≡ Some places
   abbrev is_dead : Placement → Bool
   is_dead q = cells_of_words words (rotation_index q.rotation) q.x q.y
 
-  nothing : (table : Table) (mode : DropMode) (prefix : List Placement) (q : Placement) → holds places q ≡ true → is_dead q ≡ true → entered (enter frame.setup.left) prefix (position_of table mode frame.setup) q ≡ []
+  nothing : (table : Table) (mode : DropMode) (prefix : List Placement) (q : Placement) → holds places q ≡ true → is_dead q ≡ true → entered (enter frame.setup.left) prefix (state_of table mode frame.setup) q ≡ []
   nothing table mode prefix q held none = search (rules, lockable-piece)
 
   pub left-out : (kept : LowPlaces) → piece_of kept ≡ piece_of places → ((q : Placement) → holds kept q ≡ (holds places q && not (is_dead q))) → (table : Table) (mode : DropMode) (prefix : List Placement) →
-      flat_map (entered (enter frame.setup.left) prefix (position_of table mode frame.setup)) (places_left (Some kept) frame.entered) ≡ flat_map (entered (enter frame.setup.left) prefix (position_of table mode frame.setup)) (places_left (Some places) frame.entered)
+      flat_map (entered (enter frame.setup.left) prefix (state_of table mode frame.setup)) (places_left (Some kept) frame.entered) ≡ flat_map (entered (enter frame.setup.left) prefix (state_of table mode frame.setup)) (places_left (Some places) frame.entered)
   unfolding places_left
   left-out kept same_kind held table mode prefix =
-      let walk : Placement → List Event = entered (enter frame.setup.left) prefix (position_of table mode frame.setup) in
+      let walk : Placement → List Event = entered (enter frame.setup.left) prefix (state_of table mode frame.setup) in
       let above : Placement → Bool = is_above placement_cmp frame.entered in
       ap (λ p. flat_map walk (filter (λ q. holds kept q && above q) (placements_of p))) same_kind
       ∙ flat_map-filters walk (λ q. holds kept q && above q) (λ q. holds places q && above q)

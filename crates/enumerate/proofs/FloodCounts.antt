@@ -14,7 +14,7 @@ use Rattle.std.specs.Ordering.{is_lt}
 use Rattle.std.specs.Cmp.{tied_itself}
 use Rattle.moves.specs.PlaceTest.{is_place}
 use Rattle.well.specs.LockLaws.{is_below}
-use Rattle.enumerate.specs.Position.{Position, after_of, may_play, places_at, is_live}
+use Rattle.enumerate.specs.SearchState.{SearchState, after_of, may_play, places_at, is_live}
 use Rattle.enumerate.specs.Events.{Event, Tick, Flood, floods, Walk, entered, tried, tried_in_turn, enter, sought}
 use Rattle.enumerate.proofs.Resumed.{kinds-split, placed-there}
 use Rattle.enumerate.proofs.Walks.{floods-append}
@@ -24,7 +24,7 @@ unfolding floods
 floods-flat_map f [] = refl
 floods-flat_map f (x ∷ xs) = floods-append (f x) (flat_map f xs) ∙ ap (λ k. floods (f x) + k) (floods-flat_map f xs) ∙ sym (sum_by-cons (λ x. floods (f x)) x xs)
 
-pub floods-tried_in_turn : (walk : Walk) (prefix : List Placement) (n : Position) (pieces : List Piece) → floods (tried_in_turn walk prefix n pieces) ≡ sum_by (λ c. floods (tried walk prefix n c)) pieces
+pub floods-tried_in_turn : (walk : Walk) (prefix : List Placement) (n : SearchState) (pieces : List Piece) → floods (tried_in_turn walk prefix n pieces) ≡ sum_by (λ c. floods (tried walk prefix n c)) pieces
 unfolding tried_in_turn floods
 floods-tried_in_turn walk prefix n pieces = search (rules, floods-append, floods-flat_map)
 
@@ -50,7 +50,7 @@ sum_by-last_kinds : (f : Piece → ℕ) (piece : Piece) → f piece + sum_by f (
 sum_by-last_kinds f piece =
     search (rules, (kinds-split piece), (sum_by-append f (take (piece_code piece - 1) all_pieces) (piece ∷ drop (piece_code piece) all_pieces)), (sum_by-cons f piece (drop (piece_code piece) all_pieces)))
 
-module _ (left : ℕ) (prefix : List Placement) (n : Position) (q : Placement) (given : List Placement)
+module _ (left : ℕ) (prefix : List Placement) (n : SearchState) (q : Placement) (given : List Placement)
     (fewer : floods (sought left (prefix ++ q ∷ []) (after_of n q) given) ≤ floods (enter left (prefix ++ q ∷ []) (after_of n q))) where
   abbrev later : List Placement
   later = filter (is_above placement_cmp (Some q)) (places_at n q.piece)
@@ -71,7 +71,7 @@ floods-choice : (b : Bool) (xs ys : List Event) → floods xs ≤ floods ys → 
 floods-choice b xs ys le = search rules
 
 -- a search that begins after a sequence makes no more floods than one that begins at the start
-pub floods-sought : (left : ℕ) (prefix : List Placement) (n : Position) (given : List Placement) → floods (sought left prefix n given) ≤ floods (enter left prefix n)
+pub floods-sought : (left : ℕ) (prefix : List Placement) (n : SearchState) (given : List Placement) → floods (sought left prefix n given) ≤ floods (enter left prefix n)
 unfolding sought enter floods tried
 floods-sought zero prefix n given = omega arith
 floods-sought (suc left) prefix n [] = floods-choice (is_live left n) (tried_in_turn (enter left) prefix n all_pieces) (Tick ∷ tried_in_turn (enter left) prefix n all_pieces) (omega arith)

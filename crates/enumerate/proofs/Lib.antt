@@ -1,4 +1,4 @@
--- Lemmas on the search: the solutions of a position, and the events of a walk.
+-- Lemmas on the search: the solutions of a state, and the events of a walk.
 mod Noted
 mod Solutions
 mod PermitLaws
@@ -12,7 +12,7 @@ mod Resumed
 mod Sought
 mod FloodCounts
 mod Pairs
-mod TurnLemmas
+mod TryLemmas
 mod Taken
 mod DeadPlaces
 mod Stacks

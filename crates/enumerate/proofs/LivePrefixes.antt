@@ -17,7 +17,7 @@ use Rattle.problem.specs.Plays.{Plays}
 use Rattle.problem.specs.Problem.{IsFit}
 use Rattle.problem.specs.Solution.{IsSolution, pieces_of}
 use Rattle.problem.proofs.CallerLemmas.{IsLow}
-use Rattle.enumerate.specs.Position.{Position, after_of, can_be_tiled, line_at, root_of}
+use Rattle.enumerate.specs.SearchState.{SearchState, after_of, can_be_tiled, line_at, root_of}
 use Rattle.enumerate.specs.Work.{can_be_played, can_stand, is_live_prefix, stays_tiled}
 use Rattle.enumerate.proofs.Members.{low-after}
 use Rattle.enumerate.proofs.PermitLaws.{line_permits-front}
@@ -32,7 +32,7 @@ stands-front table mode F rows (q ∷ front) rest plays =
     search (rules, and_from, is_place-decides, (stands-front table mode (locked F q) (rows - rows_removed F q) front rest))
 
 -- where front and rest play to the end and are permitted, each prefix of the front leaves a tiling
-tiled-front : (n : Position) (front rest : List Placement) → IsLow n.field n.rows → Plays n.table n.mode n.field n.rows (front ++ rest) → QueuesPermit n.line (n.line.played ++ pieces_of (front ++ rest)) → stays_tiled (length rest) n front ≡ true
+tiled-front : (n : SearchState) (front rest : List Placement) → IsLow n.field n.rows → Plays n.table n.mode n.field n.rows (front ++ rest) → QueuesPermit n.line (n.line.played ++ pieces_of (front ++ rest)) → stays_tiled (length rest) n front ≡ true
 unfolding stays_tiled after_of
 tiled-front n [] rest low plays permitted = played-tiled n rest low plays permitted
 tiled-front n (q ∷ front) rest low plays permitted =

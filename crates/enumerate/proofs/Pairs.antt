@@ -17,7 +17,7 @@ use Rattle.hold_queue.specs.QueueSet.{QueuesInPlay, queues_permit}
 use Rattle.well.specs.LockLaws.{is_below}
 use Rattle.problem.specs.Solution.{pieces_of}
 use Rattle.hold_queue.proofs.CallerLemmas.{queues_permit-decides}
-use Rattle.enumerate.specs.Position.{Position, after_of, can_be_tiled, may_play, places_at, is_live}
+use Rattle.enumerate.specs.SearchState.{SearchState, after_of, can_be_tiled, may_play, places_at, is_live}
 use Rattle.enumerate.specs.Events.{Tick, Flood, Found, floods, entered, tried, tried_in_turn, enter, begun}
 use Rattle.enumerate.specs.Work.{can_stand, can_be_played, stays_tiled, is_live_prefix, work_from}
 use Rattle.enumerate.proofs.FloodCounts.{floods-flat_map, floods-tried_in_turn}
@@ -28,13 +28,13 @@ use Rattle.enumerate.proofs.PermitLaws.{line_permits-front}
 line_permits-played : (line : QueuesInPlay) (played pieces : List Piece) → queues_permit (record line { played = played }) pieces ≡ queues_permit line pieces
 line_permits-played line played pieces = search (rules, one_answer, queues_permit-decides)
 
--- the position after a prefix, with so many placements to come and tilings before each placement of the prefix
-pub record IsAt (left : ℕ) (root : Position) (prefix : List Placement) (n : Position) : Type 0 where
+-- the state after a prefix, with so many placements to come and tilings before each placement of the prefix
+pub record IsAt (left : ℕ) (root : SearchState) (prefix : List Placement) (n : SearchState) : Type 0 where
   pub stands : (s : List Placement) → can_stand root.table root.mode root.field root.rows (prefix ++ s) ≡ can_stand n.table n.mode n.field n.rows s
   pub permits : (pieces : List Piece) → queues_permit root.line (pieces_of prefix ++ pieces) ≡ queues_permit n.line (n.line.played ++ pieces)
   pub tiled : (k : ℕ) (s : List Placement) → k + length s ≡ left → stays_tiled k root (prefix ++ s) ≡ stays_tiled k n s
 
-IsAt-next : (left : ℕ) (root : Position) (prefix : List Placement) (n : Position) → IsAt (suc left) root prefix n → can_be_tiled (suc left) n ≡ true →
+IsAt-next : (left : ℕ) (root : SearchState) (prefix : List Placement) (n : SearchState) → IsAt (suc left) root prefix n → can_be_tiled (suc left) n ≡ true →
     (q : Placement) → is_place n.table n.field n.mode q ≡ true → is_below n.rows q ≡ true → IsAt left root (prefix ++ q ∷ []) (after_of n q)
 unfolding after_of can_stand stays_tiled
 IsAt-next left root prefix n at alive q placed below = record {
@@ -54,13 +54,13 @@ IsAt-next left root prefix n at alive q placed below = record {
       ∙ ap (λ b. b && stays_tiled k (after_of n q) s) (ap (λ k. can_be_tiled k n) whole ∙ alive);
 }
 
-module _ (left : ℕ) (root : Position) (prefix : List Placement) (n : Position) (at : IsAt left root prefix n) where
+module _ (left : ℕ) (root : SearchState) (prefix : List Placement) (n : SearchState) (at : IsAt left root prefix n) where
   -- one more placement can be played where it may be played, is a place and lies below
   played-next : (q : Placement) → can_be_played root (prefix ++ q ∷ []) ≡ (may_play n.line q.piece && (is_place n.table n.field n.mode q && is_below n.rows q))
   unfolding can_be_played can_stand may_play
   played-next q = search (rules, map-append, and-true)
 
-work-unplayed : (left : ℕ) (root : Position) (prefix : List Placement) → can_be_played root prefix ≡ false → work_from left root prefix ≡ 0
+work-unplayed : (left : ℕ) (root : SearchState) (prefix : List Placement) → can_be_played root prefix ≡ false → work_from left root prefix ≡ 0
 unfolding work_from is_live_prefix
 work-unplayed left root prefix unplayed = search (rules, cond-false, and_left)
 
@@ -80,8 +80,8 @@ unfolding floods
 leaf-floods b prefix = search rules
 
 -- what a place adds, and what a kind adds
-place-floods : (left : ℕ) (root : Position) (prefix : List Placement) (n : Position) (at : IsAt (suc left) root prefix n) (alive : can_be_tiled (suc left) n ≡ true)
-    (below : (prefix : List Placement) (n : Position) → IsAt left root prefix n → can_be_played root prefix ≡ true → floods (enter left prefix n) ≡ work_from left root prefix)
+place-floods : (left : ℕ) (root : SearchState) (prefix : List Placement) (n : SearchState) (at : IsAt (suc left) root prefix n) (alive : can_be_tiled (suc left) n ≡ true)
+    (below : (prefix : List Placement) (n : SearchState) → IsAt left root prefix n → can_be_played root prefix ≡ true → floods (enter left prefix n) ≡ work_from left root prefix)
     (q : Placement) → may_play n.line q.piece ≡ true → is_place n.table n.field n.mode q ≡ true → floods (entered (enter left) prefix n q) ≡ work_from left root (prefix ++ q ∷ [])
 unfolding entered floods
 place-floods left root prefix n at alive below q played placed = elim (cases_Bool (is_below n.rows q)) [
@@ -94,8 +94,8 @@ place-floods left root prefix n at alive below q played placed = elim (cases_Boo
       ∙ sym (work-unplayed left root (prefix ++ q ∷ []) (played-next (suc left) root prefix n at q ∙ and_right (may_play n.line q.piece) _ (and_right (is_place n.table n.field n.mode q) (is_below n.rows q) e)))
 ]
 
-kind-floods : (left : ℕ) (root : Position) (prefix : List Placement) (n : Position) (at : IsAt (suc left) root prefix n) (alive : can_be_tiled (suc left) n ≡ true)
-    (below : (prefix : List Placement) (n : Position) → IsAt left root prefix n → can_be_played root prefix ≡ true → floods (enter left prefix n) ≡ work_from left root prefix)
+kind-floods : (left : ℕ) (root : SearchState) (prefix : List Placement) (n : SearchState) (at : IsAt (suc left) root prefix n) (alive : can_be_tiled (suc left) n ≡ true)
+    (below : (prefix : List Placement) (n : SearchState) → IsAt left root prefix n → can_be_played root prefix ≡ true → floods (enter left prefix n) ≡ work_from left root prefix)
     (c : Piece) → floods (tried (enter left) prefix n c) ≡ (if queues_permit root.line (pieces_of prefix ++ c ∷ []) then 1 + sum_by (λ q. work_from left root (prefix ++ q ∷ [])) (placements_of c) else 0)
 unfolding tried floods may_play places_at
 kind-floods left root prefix n at alive below c = elim (cases_Bool (may_play n.line c)) [
@@ -115,12 +115,12 @@ kind-floods left root prefix n at alive below c = elim (cases_Bool (may_play n.l
     one_more : (k : ℕ) → k + 1 ≡ 1 + k
     one_more k = omega arith
 
--- a prefix that can be played is live where the position after it has a tiling
-live-prefix : (left : ℕ) (root : Position) (prefix : List Placement) (n : Position) → IsAt left root prefix n → can_be_played root prefix ≡ true → is_live_prefix left root prefix ≡ can_be_tiled left n
+-- a prefix that can be played is live where the state after it has a tiling
+live-prefix : (left : ℕ) (root : SearchState) (prefix : List Placement) (n : SearchState) → IsAt left root prefix n → can_be_played root prefix ≡ true → is_live_prefix left root prefix ≡ can_be_tiled left n
 unfolding is_live_prefix stays_tiled
 live-prefix left root prefix n at played = search (rules, (append-nil prefix), (at.tiled left []))
 
-pub floods-enter : (left : ℕ) (root : Position) (prefix : List Placement) (n : Position) → IsAt left root prefix n → can_be_played root prefix ≡ true → floods (enter left prefix n) ≡ work_from left root prefix
+pub floods-enter : (left : ℕ) (root : SearchState) (prefix : List Placement) (n : SearchState) → IsAt left root prefix n → can_be_played root prefix ≡ true → floods (enter left prefix n) ≡ work_from left root prefix
 unfolding enter work_from floods is_live
 floods-enter zero root prefix n at played = leaf-floods (n.rows == 0) prefix
 floods-enter (suc left) root prefix n at played = elim (cases_Bool (can_be_tiled (suc left) n)) [
@@ -136,18 +136,18 @@ floods-enter (suc left) root prefix n at played = elim (cases_Bool (can_be_tiled
 ]
 
 -- at the start
-root-at : (left : ℕ) (root : Position) → root.line.played ≡ [] → IsAt left root [] root
+root-at : (left : ℕ) (root : SearchState) → root.line.played ≡ [] → IsAt left root [] root
 root-at left root none = search rules
 
-root-dead : (root : Position) → root.line.played ≡ [] → can_be_played root [] ≡ false → (c : Piece) → may_play root.line c ≡ false
+root-dead : (root : SearchState) → root.line.played ≡ [] → can_be_played root [] ≡ false → (c : Piece) → may_play root.line c ≡ false
 unfolding can_be_played can_stand may_play
 root-dead root none dead c = search (rules, cases_Bool, queues_permit-decides, line_permits-front, and_from)
 
-none_tried : (left : ℕ) (root : Position) (c : Piece) → may_play root.line c ≡ false → floods (tried (enter left) [] root c) ≡ 0
+none_tried : (left : ℕ) (root : SearchState) (c : Piece) → may_play root.line c ≡ false → floods (tried (enter left) [] root c) ≡ 0
 unfolding tried floods
 none_tried left root c e = ap floods (cond-false (may_play root.line c) _ [] e)
 
-pub floods-begun : (left : ℕ) (root : Position) → root.line.played ≡ [] → floods (begun left root) ≡ work_from left root []
+pub floods-begun : (left : ℕ) (root : SearchState) → root.line.played ≡ [] → floods (begun left root) ≡ work_from left root []
 unfolding begun enter floods is_live
 floods-begun zero root none = unfold work_from in refl
 floods-begun (suc left) root none =

@@ -22,7 +22,7 @@ use Rattle.moves.specs.PlaceTest.{is_place}
 use Rattle.moves.proofs.CallerLemmas.{is_place-decides}
 use Rattle.enumerate.proofs.PlaceLaws.{lockable-listed, place-lockable}
 use Rattle.well.specs.LockLaws.{is_below}
-use Rattle.enumerate.specs.Position.{Position, after_of, may_play, places_at}
+use Rattle.enumerate.specs.SearchState.{SearchState, after_of, may_play, places_at}
 use Rattle.enumerate.proofs.Solutions.{Sequences, in_kind, in_place, of_kind, of_place, places_at-rising}
 
 -- above a sequence in the order
@@ -46,10 +46,10 @@ past-later p q given s e = ap is_lt (sequence_cmp-first p q given s e)
 past-earlier : (p q : Placement) (given s : List Placement) → placement_cmp p q ≡ Greater → past (p ∷ given) (q ∷ s) ≡ false
 past-earlier p q given s e = ap (λ r. is_lt (ordering_then r (sequence_cmp given s))) e
 
-turned : (p q : Placement) → placement_cmp q p ≡ Less → placement_cmp p q ≡ Greater
-turned p q e = placement_cmp-total.antisymm p q ∙ ap ordering_reverse e
+reversed : (p q : Placement) → placement_cmp q p ≡ Less → placement_cmp p q ≡ Greater
+reversed p q e = placement_cmp-total.antisymm p q ∙ ap ordering_reverse e
 
-module _ (more : Sequences) (n : Position) (p : Placement) (given : List Placement) where
+module _ (more : Sequences) (n : SearchState) (p : Placement) (given : List Placement) where
   -- what begins with a later placement is above, and what begins with an earlier one is not
   later-kept : (qs : List Placement) → ((q : Placement) → Contains qs q → placement_cmp p q ≡ Less) → filter (past (p ∷ given)) (flat_map (of_place more n) qs) ≡ flat_map (of_place more n) qs
   later-kept qs later = filter-each (past (p ∷ given)) (flat_map (of_place more n) qs) (λ s among.
@@ -88,7 +88,7 @@ module _ (more : Sequences) (n : Position) (p : Placement) (given : List Placeme
       not_there : placement_cmp p q ≡ Less → held ≡ true → ⊥
       not_there e h = elim (Contains-cases q qs p (there h)) [
         | inl same ↦ let tied : placement_cmp p q ≡ Equal = subst (λ z. placement_cmp z q ≡ Equal) same (tied_itself placement_cmp-total q) in cc
-        | inr among ↦ let back : placement_cmp q p ≡ Less = rising-first placement_cmp q qs rising p among in let e' : placement_cmp p q ≡ Greater = turned p q back in cc
+        | inr among ↦ let back : placement_cmp q p ≡ Less = rising-first placement_cmp q qs rising p among in let e' : placement_cmp p q ≡ Greater = reversed p q back in cc
       ]
 
       all_later : placement_cmp p q ≡ Less → (r : Placement) → Contains (q ∷ qs) r → placement_cmp p r ≡ Less
@@ -152,23 +152,23 @@ later_code piece c among = ltb-true (piece_code piece) (piece_code c) (each-cont
     each S = tt
 
 -- a place of its kind is among the places, and what is among them is a place
-pub placed-there : (n : Position) (p : Placement) → is_place n.table n.field n.mode p ≡ true → Contains (places_at n p.piece) p
+pub placed-there : (n : SearchState) (p : Placement) → is_place n.table n.field n.mode p ≡ true → Contains (places_at n p.piece) p
 unfolding places_at
 placed-there n p placed =
     Contains-filter (is_place n.table n.field n.mode) (placements_of p.piece) p
     (((placements_of-list p.piece).members p).1 (lockable-listed n.field p.piece p (place-lockable n.table n.field n.mode p.piece p refl ((is_place-decides n.table n.field n.mode p).0 placed)))) placed
 
-pub there-placed : (n : Position) (p : Placement) → Contains (places_at n p.piece) p → is_place n.table n.field n.mode p ≡ true
+pub there-placed : (n : SearchState) (p : Placement) → Contains (places_at n p.piece) p → is_place n.table n.field n.mode p ≡ true
 unfolding places_at
 there-placed n p among = (Contains-from_filter (is_place n.table n.field n.mode) (placements_of p.piece) p among).1
 
-module _ (more : Sequences) (n : Position) (p : Placement) (given : List Placement) where
+module _ (more : Sequences) (n : SearchState) (p : Placement) (given : List Placement) where
   kinds-dropped : (pieces : List Piece) → ((c : Piece) → Contains pieces c → piece_code c < piece_code p.piece) → filter (past (p ∷ given)) (flat_map (of_kind more n) pieces) ≡ []
   kinds-dropped pieces each = filter-none (past (p ∷ given)) (flat_map (of_kind more n) pieces) (λ s among.
       let found = Contains-from_flat_map (of_kind more n) pieces s among in
       let first = in_kind more n found.0 s found.2 in
       let before : piece_code first.first.piece < piece_code p.piece = subst (λ c. piece_code c < piece_code p.piece) (sym first.listed.kind) (each found.0 found.1) in
-      search (rules, (past-earlier p first.first given first.in_place.rest (turned p first.first (placement_cmp-piece first.first p before)))))
+      search (rules, (past-earlier p first.first given first.in_place.rest (reversed p first.first (placement_cmp-piece first.first p before)))))
 
   kinds-kept : (pieces : List Piece) → ((c : Piece) → Contains pieces c → piece_code p.piece < piece_code c) → filter (past (p ∷ given)) (flat_map (of_kind more n) pieces) ≡ flat_map (of_kind more n) pieces
   kinds-kept pieces each = filter-each (past (p ∷ given)) (flat_map (of_kind more n) pieces) (λ s among.

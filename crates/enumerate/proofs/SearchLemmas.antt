@@ -15,20 +15,20 @@ use Rattle.hold_queue.specs.QueueSet.{queues_in_play}
 use Rattle.problem.specs.declared.problem.Problem.{Problem}
 use Rattle.enumerate.specs.declared.frame.Frame.{Frame}
 use Rattle.problem.specs.Problem.{needed_of}
-use Rattle.enumerate.specs.Position.{Position, is_live, line_at, root_of}
+use Rattle.enumerate.specs.SearchState.{SearchState, is_live, line_at, root_of}
 use Rattle.enumerate.specs.Events.{Event, begun, sought}
 use Rattle.enumerate.specs.Frames.{has_room, stacked}
-use Rattle.enumerate.specs.Setups.{position_of}
+use Rattle.enumerate.specs.Setups.{state_of}
 use Rattle.enumerate.specs.Rest.{events_from, whole_from}
 use Rattle.enumerate.specs.Seeks.{IsFresh, SkipsTo}
 use Rattle.enumerate.specs.Walks.{Finds}
 use Rattle.enumerate.proofs.SeekLemmas.{fresh-events}
 use Rattle.enumerate.proofs.SkipLemmas.{skips-same}
 
-pub first-position : (problem : Problem) (queue : Option (List Piece)) (queues : QueueSet) → queues_in_play queues ≡ line_at problem queue →
-    ◌≡◌ {A = Position} (record { table = table_of problem.rules; mode = problem.drop_mode; field = filled problem.well; rows = problem.height; line = queues_in_play queues }) (root_of problem queue)
+pub first-state : (problem : Problem) (queue : Option (List Piece)) (queues : QueueSet) → queues_in_play queues ≡ line_at problem queue →
+    ◌≡◌ {A = SearchState} (record { table = table_of problem.rules; mode = problem.drop_mode; field = filled problem.well; rows = problem.height; line = queues_in_play queues }) (root_of problem queue)
 unfolding root_of
-first-position problem queue queues e = λ i. record { table = table_of problem.rules; mode = problem.drop_mode; field = filled problem.well; rows = problem.height; line = e i }
+first-state problem queue queues e = λ i. record { table = table_of problem.rules; mode = problem.drop_mode; field = filled problem.well; rows = problem.height; line = e i }
 
 -- ---- the whole search from its first frame
 
@@ -38,29 +38,29 @@ live-part k b e = search (rules, and_second)
 dead-part : (k : ℕ) (b : Bool) → (nat_lt 0 k && b) ≡ false → (k ≡ 0) ⊎ ((k ≡ suc (k - 1)) × (b ≡ false))
 dead-part k b e = search (rules, lt-ltb)
 
-begun-zero : (n : Position) → begun zero n ≡ []
+begun-zero : (n : SearchState) → begun zero n ≡ []
 unfolding begun
 begun-zero n = refl
 
-begun-dead : (left : ℕ) (n : Position) → is_live left n ≡ false → begun (suc left) n ≡ []
+begun-dead : (left : ℕ) (n : SearchState) → is_live left n ≡ false → begun (suc left) n ≡ []
 unfolding begun
 begun-dead left n dead = cond-false (is_live left n) _ [] dead
 
-begun-sought : (left : ℕ) (n : Position) → begun (suc left) n ≡ sought (suc left) [] n []
+begun-sought : (left : ℕ) (n : SearchState) → begun (suc left) n ≡ sought (suc left) [] n []
 unfolding begun sought
 begun-sought left n = refl
 
-sought-zero : (n : Position) (given : List Placement) → sought zero [] n given ≡ []
+sought-zero : (n : SearchState) (given : List Placement) → sought zero [] n given ≡ []
 unfolding sought
 sought-zero n given = refl
 
-sought-dead : (left : ℕ) (n : Position) (given : List Placement) → is_live left n ≡ false → sought (suc left) [] n given ≡ []
+sought-dead : (left : ℕ) (n : SearchState) (given : List Placement) → is_live left n ≡ false → sought (suc left) [] n given ≡ []
 unfolding sought
 sought-dead left n given dead = search (rules, cond-false)
 
-module _ (problem : Problem) (queue : Option (List Piece)) (f : Frame) (position : position_of (table_of problem.rules) problem.drop_mode f.setup ≡ root_of problem queue) (left : f.setup.left ≡ needed_of problem - 1) where
-  abbrev here : Position
-  here = position_of (table_of problem.rules) problem.drop_mode f.setup
+module _ (problem : Problem) (queue : Option (List Piece)) (f : Frame) (state : state_of (table_of problem.rules) problem.drop_mode f.setup ≡ root_of problem queue) (left : f.setup.left ≡ needed_of problem - 1) where
+  abbrev here : SearchState
+  here = state_of (table_of problem.rules) problem.drop_mode f.setup
 
   pub whole-nothing : (nat_lt 0 (needed_of problem) && is_live f.setup.left here) ≡ false → (after : Option (List Placement)) → whole_from problem queue after ≡ []
   unfolding whole_from
@@ -75,7 +75,7 @@ module _ (problem : Problem) (queue : Option (List Piece)) (f : Frame) (position
 
     pub whole-sought : (given : List Placement) → whole_from problem queue (Some given) ≡ sought (suc f.setup.left) [] here given
     unfolding whole_from
-    whole-sought given = λ i. sought (depth i) [] (sym position i) given
+    whole-sought given = λ i. sought (depth i) [] (sym state i) given
 
     pub first-fresh : f.tried ≡ 0 → f.places ≡ None → IsFresh (table_of problem.rules) problem.drop_mode f
     first-fresh tried places = record { tried = tried; places = places; live = (live-part (needed_of problem) (is_live f.setup.left here) live).1 }
@@ -83,7 +83,7 @@ module _ (problem : Problem) (queue : Option (List Piece)) (f : Frame) (position
     pub whole-first : f.tried ≡ 0 → f.places ≡ None → whole_from problem queue None ≡ stacked (table_of problem.rules) problem.drop_mode [] (f ∷ [])
     unfolding whole_from stacked
     whole-first tried places =
-        (λ i. begun (depth i) (sym position i))
+        (λ i. begun (depth i) (sym state i))
         ∙ begun-sought f.setup.left here
         ∙ fresh-events (table_of problem.rules) problem.drop_mode [] f (first-fresh tried places)
 
@@ -114,14 +114,14 @@ pub first-read : (frames : List Frame) (f d : Frame) → 0 < length frames → g
 first-read frames f d some = get_or-set_same frames 0 f d some
 
 pub sought-skips : (table : Table) (mode : DropMode) (frames : List Frame) (f : Frame) (given given' : List Placement) (whole rest : List Event) (before now : ℕ) → 0 < length frames → given' ≡ given →
-    whole ≡ sought (suc f.setup.left) [] (position_of table mode f.setup) given →
-    ((d : Frame) → SkipsTo (sought (suc (get_or (set frames 0 f) 0 d).setup.left) [] (position_of table mode (get_or (set frames 0 f) 0 d).setup) given') rest before now) → SkipsTo whole rest before now
+    whole ≡ sought (suc f.setup.left) [] (state_of table mode f.setup) given →
+    ((d : Frame) → SkipsTo (sought (suc (get_or (set frames 0 f) 0 d).setup.left) [] (state_of table mode (get_or (set frames 0 f) 0 d).setup) given') rest before now) → SkipsTo whole rest before now
 sought-skips table mode frames f given given' whole rest before now some same e skips = search (rules, (first-read frames f f some))
 
 -- by equal tables the same is passed
 pub skips-by : (mode : DropMode) (frames : List Frame) (given : List Placement) (depth : ℕ) (used : List Frame) (before now : ℕ) (table other : Table) → table ≡ other →
-    ((d : Frame) → SkipsTo (sought (suc (get_or frames 0 d).setup.left) [] (position_of table mode (get_or frames 0 d).setup) given) (stacked table mode [] (take depth used)) before now) →
-    (d : Frame) → SkipsTo (sought (suc (get_or frames 0 d).setup.left) [] (position_of other mode (get_or frames 0 d).setup) given) (stacked other mode [] (take depth used)) before now
+    ((d : Frame) → SkipsTo (sought (suc (get_or frames 0 d).setup.left) [] (state_of table mode (get_or frames 0 d).setup) given) (stacked table mode [] (take depth used)) before now) →
+    (d : Frame) → SkipsTo (sought (suc (get_or frames 0 d).setup.left) [] (state_of other mode (get_or frames 0 d).setup) given) (stacked other mode [] (take depth used)) before now
 skips-by mode frames given depth used before now table other same skips d = search rules
 
 -- ---- going on

@@ -13,7 +13,7 @@ use Rattle.problem.specs.declared.problem.Problem.{Problem}
 use Rattle.problem.specs.Problem.{IsFit, needed_of}
 use Rattle.problem.specs.Solution.{IsSolution}
 use Rattle.problem.specs.SolutionList.{IsList}
-use Rattle.enumerate.specs.Position.{Position, is_live, root_of}
+use Rattle.enumerate.specs.SearchState.{SearchState, is_live, root_of}
 use Rattle.enumerate.specs.Events.{begun, enter, found, floods, sought, tried_in_turn}
 use Rattle.enumerate.specs.Rest.{whole_from}
 use Rattle.enumerate.specs.Work.{pairs}
@@ -24,23 +24,23 @@ use Rattle.problem.proofs.CallerLemmas.{long-needed}
 use Rattle.enumerate.proofs.Pairs.{floods-begun}
 use Rattle.enumerate.proofs.Solutions.{sols, sols-rising}
 use Rattle.enumerate.proofs.Sought.{found-sought}
-use Rattle.enumerate.proofs.TurnLemmas.{not-zero}
+use Rattle.enumerate.proofs.TryLemmas.{not-zero}
 use Rattle.enumerate.proofs.Walks.{finds-enter, floods-tick, found-tick, prefixed-nil}
 
-found-begun : (left : ℕ) (n : Position) → found (begun (suc left) n) ≡ sols (suc left) n
+found-begun : (left : ℕ) (n : SearchState) → found (begun (suc left) n) ≡ sols (suc left) n
 unfolding begun enter
 found-begun left n = sym (found-tick (is_live left n) (tried_in_turn (enter left) [] n all_pieces)) ∙ (finds-enter (suc left)).same [] n ∙ prefixed-nil (sols (suc left) n)
 
-begun-none : (n : Position) → found (begun zero n) ≡ []
+begun-none : (n : SearchState) → found (begun zero n) ≡ []
 unfolding begun found
 begun-none n = refl
 
-sought-none : (n : Position) (given : List Placement) → found (sought zero [] n given) ≡ []
+sought-none : (n : SearchState) (given : List Placement) → found (sought zero [] n given) ≡ []
 unfolding sought found
 sought-none n given = refl
 
 -- from after a sequence on
-after-sequence : (left : ℕ) (n : Position) (given : List Placement) → found (sought left [] n given) ≡ filter (is_above sequence_cmp (Some given)) (found (begun left n))
+after-sequence : (left : ℕ) (n : SearchState) (given : List Placement) → found (sought left [] n given) ≡ filter (is_above sequence_cmp (Some given)) (found (begun left n))
 after-sequence zero n given = sought-none n given ∙ sym (ap (filter (is_above sequence_cmp (Some given))) (begun-none n))
 after-sequence (suc left) n given = search (rules, found-sought, prefixed-nil, found-begun)
 
@@ -61,7 +61,7 @@ head-found test [] y ys e = cc
 head-found test (x ∷ xs) y ys e =
     search (rules, (cases_Bool (test x)), (find-true test x xs), heads, (filter-true test x xs), (find-false test x xs), (head-found test xs y ys), (filter-false test x xs))
 
-rows-left : (n : Position) → (n.rows ≡ 0 → ⊥) → sols zero n ≡ []
+rows-left : (n : SearchState) → (n.rows ≡ 0 → ⊥) → sols zero n ≡ []
 unfolding sols
 rows-left n some = cond-false (n.rows == 0) ([] ∷ []) [] (not-zero n.rows some)
 
@@ -128,15 +128,15 @@ root-played : (problem : Problem) (queue : Option (List Piece)) → (root_of pro
 unfolding root_of
 root-played problem queue = search rules
 
-none-floods : (n : Position) (given : List Placement) → floods (sought zero [] n given) ≡ 0
+none-floods : (n : SearchState) (given : List Placement) → floods (sought zero [] n given) ≡ 0
 unfolding sought floods
 none-floods n given = refl
 
-entered-floods : (left : ℕ) (n : Position) → floods (enter (suc left) [] n) ≡ floods (begun (suc left) n)
+entered-floods : (left : ℕ) (n : SearchState) → floods (enter (suc left) [] n) ≡ floods (begun (suc left) n)
 unfolding enter begun
 entered-floods left n = floods-tick (is_live left n) (tried_in_turn (enter left) [] n all_pieces)
 
-begun-floods : (left : ℕ) (n : Position) (given : List Placement) → floods (sought left [] n given) ≤ floods (begun left n)
+begun-floods : (left : ℕ) (n : SearchState) (given : List Placement) → floods (sought left [] n given) ≤ floods (begun left n)
 begun-floods zero n given = omega (arith, none-floods n given)
 begun-floods (suc left) n given = omega (arith, floods-sought (suc left) [] n given, entered-floods left n)
 

@@ -9,7 +9,7 @@ use Rattle.enumerate.specs.declared.frame.Frame.{Frame}
 use Rattle.enumerate.specs.declared.setup.Setup.{Setup}
 use Rattle.enumerate.specs.Events.{Event, sought}
 use Rattle.enumerate.specs.Frames.{events_of, has_room, path_of, places_left, stacked, entered_placement}
-use Rattle.enumerate.specs.Setups.{position_of}
+use Rattle.enumerate.specs.Setups.{state_of}
 use Rattle.enumerate.specs.Seeks.{IsDeeper, IsFresh, IsSought, IsThere, Skips, SkipsTo, sought_at}
 use Rattle.enumerate.proofs.SkipLemmas.{skips-before, skips-same}
 use Rattle.std.proofs.lemmas.List.{get_or-take, length-take-le, take-take}
@@ -69,12 +69,12 @@ module _ (table : Table) (mode : DropMode) (frames walked : List Frame) (top : �
     written : take (top + 1) more ≡ below ++ new ∷ []
     written = written-top walked top (top + 1) refl long new behind ∙ ap (λ l. l ++ new ∷ []) below-same
 
-    there : ((prefix given : List Placement) → SkipsTo (sought (suc old.setup.left) prefix (position_of table mode old.setup) (q ∷ given)) (events_of table mode prefix new) before now) → IsThere table mode frames more top q before now
+    there : ((prefix given : List Placement) → SkipsTo (sought (suc old.setup.left) prefix (state_of table mode old.setup) (q ∷ given)) (events_of table mode prefix new) before now) → IsThere table mode frames more top q before now
     there skips = record {
       room = subst (λ l. has_room 0 l ≡ true) (sym written) room-new;
       skips = λ given d.
           subst (λ l. SkipsTo (sought_at table mode frames top (q ∷ given) d) l before now) (sym (ap (stacked table mode []) written ∙ stacked-last table mode [] below new))
-          (search (rules, (old-there d), (skips-before (sought (suc old.setup.left) (path_of below) (position_of table mode old.setup) (q ∷ given)) (events_of table mode (path_of below) new) (stacked table mode [] below) before now (skips (path_of below) given))));
+          (search (rules, (old-there d), (skips-before (sought (suc old.setup.left) (path_of below) (state_of table mode old.setup) (q ∷ given)) (events_of table mode (path_of below) new) (stacked table mode [] below) before now (skips (path_of below) given))));
     }
 
     module _ (e : Frame) (fewer : (get_or behind 0 e).setup.left + 1 ≡ old.setup.left) (some : 0 < length behind) where
@@ -85,7 +85,7 @@ module _ (table : Table) (mode : DropMode) (frames walked : List Frame) (top : �
       child-there d = sym (written-child walked top (top + 1) refl long new behind e d some)
 
       deeper : IsFresh table mode child →
-          ((prefix given : List Placement) → SkipsTo (sought (suc old.setup.left) prefix (position_of table mode old.setup) (q ∷ given)) (sought (suc child.setup.left) (prefix ++ entered_placement new) (position_of table mode child.setup) given ++ events_of table mode prefix new) before now) →
+          ((prefix given : List Placement) → SkipsTo (sought (suc old.setup.left) prefix (state_of table mode old.setup) (q ∷ given)) (sought (suc child.setup.left) (prefix ++ entered_placement new) (state_of table mode child.setup) given ++ events_of table mode prefix new) before now) →
           IsDeeper table mode frames more top q before now
       deeper fresh skips = record {
         within = omega (arith, fits room, fewer);
@@ -94,19 +94,19 @@ module _ (table : Table) (mode : DropMode) (frames walked : List Frame) (top : �
         fresh = λ d. subst (IsFresh table mode) (child-there d) fresh;
         skips = λ given d.
             subst (λ l. SkipsTo (sought_at table mode frames top (q ∷ given) d) l before now) (shape given d)
-            (subst (λ f. SkipsTo (sought (suc f.setup.left) (path_of below) (position_of table mode f.setup) (q ∷ given) ++ stacked table mode [] below) ((sought (suc child.setup.left) (path_of below ++ entered_placement new) (position_of table mode child.setup) given ++ events_of table mode (path_of below) new) ++ stacked table mode [] below) before now) (old-there d)
-            (skips-before (sought (suc old.setup.left) (path_of below) (position_of table mode old.setup) (q ∷ given)) (sought (suc child.setup.left) (path_of below ++ entered_placement new) (position_of table mode child.setup) given ++ events_of table mode (path_of below) new) (stacked table mode [] below) before now (skips (path_of below) given)));
+            (subst (λ f. SkipsTo (sought (suc f.setup.left) (path_of below) (state_of table mode f.setup) (q ∷ given) ++ stacked table mode [] below) ((sought (suc child.setup.left) (path_of below ++ entered_placement new) (state_of table mode child.setup) given ++ events_of table mode (path_of below) new) ++ stacked table mode [] below) before now) (old-there d)
+            (skips-before (sought (suc old.setup.left) (path_of below) (state_of table mode old.setup) (q ∷ given)) (sought (suc child.setup.left) (path_of below ++ entered_placement new) (state_of table mode child.setup) given ++ events_of table mode (path_of below) new) (stacked table mode [] below) before now (skips (path_of below) given)));
       }
         where
-          shape : (given : List Placement) (d : Frame) → (sought (suc child.setup.left) (path_of below ++ entered_placement new) (position_of table mode child.setup) given ++ events_of table mode (path_of below) new) ++ stacked table mode [] below ≡ sought_at table mode more (top + 1) given d
-          shape given d = search (rules, (append_assoc (sought (suc child.setup.left) (path_of below ++ entered_placement new) (position_of table mode child.setup) given) (events_of table mode (path_of below) new) (stacked table mode [] below)), (child-there d), (path-last below new), (stacked-last table mode [] below new), written)
+          shape : (given : List Placement) (d : Frame) → (sought (suc child.setup.left) (path_of below ++ entered_placement new) (state_of table mode child.setup) given ++ events_of table mode (path_of below) new) ++ stacked table mode [] below ≡ sought_at table mode more (top + 1) given d
+          shape given d = search (rules, (append_assoc (sought (suc child.setup.left) (path_of below ++ entered_placement new) (state_of table mode child.setup) given) (events_of table mode (path_of below) new) (stacked table mode [] below)), (child-there d), (path-last below new), (stacked-last table mode [] below new), written)
 
     pub skipped : length behind + (top + 1) ≡ 20 → (entered : Bool) → Skips table mode old new q (get_or behind 0 new) entered before now → IsSought table mode frames (set walked top new ++ behind) top q entered before now
     skipped size false skips = there skips
     skipped size true skips = deeper new skips.2 (omega (arith, fits room, skips.2, size)) skips.1 skips.0
 
 -- a fresh frame, with nothing to be passed by
-pub fresh-events : (table : Table) (mode : DropMode) (prefix : List Placement) (frame : Frame) → IsFresh table mode frame → sought (suc frame.setup.left) prefix (position_of table mode frame.setup) [] ≡ events_of table mode prefix frame
+pub fresh-events : (table : Table) (mode : DropMode) (prefix : List Placement) (frame : Frame) → IsFresh table mode frame → sought (suc frame.setup.left) prefix (state_of table mode frame.setup) [] ≡ events_of table mode prefix frame
 unfolding sought events_of places_left
 fresh-events table mode prefix frame fresh = search (rules, cond-true)
 
@@ -115,13 +115,13 @@ at-end table mode frames top d within fresh =
     search (rules, (fresh-events table mode (path_of (take top frames)) (get_or frames top d) fresh), (stacked-last table mode [] (take top frames) (get_or frames top d)), (take-top frames top d within))
 
 -- at the start
-pub at-start : (table : Table) (mode : DropMode) (frames : List Frame) (given : List Placement) (d : Frame) → sought_at table mode frames 0 given d ≡ sought (suc (get_or frames 0 d).setup.left) [] (position_of table mode (get_or frames 0 d).setup) given
+pub at-start : (table : Table) (mode : DropMode) (frames : List Frame) (given : List Placement) (d : Frame) → sought_at table mode frames 0 given d ≡ sought (suc (get_or frames 0 d).setup.left) [] (state_of table mode (get_or frames 0 d).setup) given
 unfolding stacked path_of
-at-start table mode frames given d = append-nil (sought (suc (get_or frames 0 d).setup.left) [] (position_of table mode (get_or frames 0 d).setup) given)
+at-start table mode frames given d = append-nil (sought (suc (get_or frames 0 d).setup.left) [] (state_of table mode (get_or frames 0 d).setup) given)
 
 pub starts : (table : Table) (mode : DropMode) (frames : List Frame) (given : List Placement) (d : Frame) (before : ℕ) →
-    SkipsTo (sought (suc (get_or frames 0 d).setup.left) [] (position_of table mode (get_or frames 0 d).setup) given) (sought_at table mode frames 0 given d) before before
-starts table mode frames given d before = skips-same (sought (suc (get_or frames 0 d).setup.left) [] (position_of table mode (get_or frames 0 d).setup) given) (sought_at table mode frames 0 given d) before (sym (at-start table mode frames given d))
+    SkipsTo (sought (suc (get_or frames 0 d).setup.left) [] (state_of table mode (get_or frames 0 d).setup) given) (sought_at table mode frames 0 given d) before before
+starts table mode frames given d before = skips-same (sought (suc (get_or frames 0 d).setup.left) [] (state_of table mode (get_or frames 0 d).setup) given) (sought_at table mode frames 0 given d) before (sym (at-start table mode frames given d))
 
 pub drop-none : (given : List Placement) (i : ℕ) → length given ≤ i → drop i given ≡ []
 drop-none [] zero within = refl

@@ -10,7 +10,7 @@ use Rattle.srs.specs.Rising.{is_above}
 use Rattle.srs.proofs.CallerLemmas.{Contains-from_flat_map, filter-each}
 use Rattle.moves.specs.PlaceTest.{is_place}
 use Rattle.well.specs.LockLaws.{is_below}
-use Rattle.enumerate.specs.Position.{Position, after_of, may_play, places_at, is_live}
+use Rattle.enumerate.specs.SearchState.{SearchState, after_of, may_play, places_at, is_live}
 use Rattle.enumerate.specs.Events.{Event, Flood, found, entered, tried_in_turn, enter, sought}
 use Rattle.enumerate.proofs.Solutions.{Sequences, in_kind, of_kind, of_place, sols}
 use Rattle.enumerate.proofs.Walks.{finds-enter, found-append, found-if_live, found-tried_in_turn, found-places, prefixed, prefixed-append, prefixed-cons}
@@ -26,13 +26,13 @@ leaf-past true prefix [] = refl
 leaf-past true prefix (q ∷ given) = refl
 leaf-past false prefix given = refl
 
-all-past_nil : (more : Sequences) (n : Position) (pieces : List Piece) → filter (past []) (flat_map (of_kind more n) pieces) ≡ flat_map (of_kind more n) pieces
+all-past_nil : (more : Sequences) (n : SearchState) (pieces : List Piece) → filter (past []) (flat_map (of_kind more n) pieces) ≡ flat_map (of_kind more n) pieces
 all-past_nil more n pieces = filter-each (past []) (flat_map (of_kind more n) pieces) (λ s among.
     let found = Contains-from_flat_map (of_kind more n) pieces s among in
     let first = in_kind more n found.0 s found.2 in
     subst (λ s. past [] s ≡ true) first.in_place.is refl)
 
-module _ (left : ℕ) (prefix : List Placement) (n : Position) (q : Placement) (given : List Placement)
+module _ (left : ℕ) (prefix : List Placement) (n : SearchState) (q : Placement) (given : List Placement)
     (deeper : found (sought left (prefix ++ q ∷ []) (after_of n q) given) ≡ prefixed (prefix ++ q ∷ []) (filter (past given) (sols left (after_of n q)))) where
   found-first : (b : Bool) → found (if b && is_below n.rows q then sought left (prefix ++ q ∷ []) (after_of n q) given else []) ≡ prefixed prefix (following (sols left) n q given b)
   unfolding following found prefixed
@@ -47,7 +47,7 @@ module _ (left : ℕ) (prefix : List Placement) (n : Position) (q : Placement) (
   found-kind true = search (rules, found-append, found-first, found-places, finds-enter, prefixed-append)
   found-kind false = refl
 
-pub found-sought : (left : ℕ) (prefix : List Placement) (n : Position) (given : List Placement) → found (sought left prefix n given) ≡ prefixed prefix (filter (past given) (sols left n))
+pub found-sought : (left : ℕ) (prefix : List Placement) (n : SearchState) (given : List Placement) → found (sought left prefix n given) ≡ prefixed prefix (filter (past given) (sols left n))
 unfolding sought sols found
 found-sought zero prefix n given = leaf-past (n.rows == 0) prefix given
 found-sought (suc left) prefix n [] =

@@ -1,4 +1,4 @@
--- Turns of frames, from the first position to the deepest.
+-- Tries at frames, from the first state to the deepest.
 use Rattle.std.proofs.Common.{◌≡◌, ℕ, suc, ◌+◌, ◌<◌, ◌≤◌, Bool, true, false, List, [], ◌∷◌, ◌++◌, length, refl, sym, ap, subst, ◌∙◌, arith, append_assoc, length-append, get_or, set, take, length-set, rules}
 use Rattle.std.specs.Prelude.{nat_le, ◌-◌}
 use Rattle.std.proofs.Math.Seq.{take-append-add, take-suc}
@@ -13,8 +13,8 @@ use Rattle.moves.specs.declared.key.DropMode.{DropMode}
 use Rattle.enumerate.specs.declared.frame.Frame.{Frame}
 use Rattle.enumerate.specs.Events.{Event, Tick, Flood, Found, found, floods}
 use Rattle.enumerate.specs.Frames.{events_of, has_room, path_of, stacked, entered_placement}
-use Rattle.enumerate.specs.Turns.{GoesAs}
-use Rattle.enumerate.specs.Walks.{Finds, IsTurn}
+use Rattle.enumerate.specs.Tries.{GoesAs}
+use Rattle.enumerate.specs.Walks.{Finds, IsTry}
 
 -- the deepest frame comes first
 pub stacked-last : (table : Table) (mode : DropMode) (prefix : List Placement) (frames : List Frame) (frame : Frame) →
@@ -55,27 +55,27 @@ module _ (table : Table) (mode : DropMode) (fs : List Frame) (old new : Frame) (
   room-new : has_room 0 (fs ++ new ∷ []) ≡ true
   room-new = let rest = room-last 0 fs old room in room-more 0 fs new rest.0 (omega (arith, rest.1, left))
 
-  pub turn-passed : (before now : ℕ) → GoesAs table mode old (λ prefix. Tick ∷ events_of table mode prefix new) → now ≡ before → IsTurn table mode (fs ++ old ∷ []) (fs ++ new ∷ []) before now false
+  pub try-passed : (before now : ℕ) → GoesAs table mode old (λ prefix. Tick ∷ events_of table mode prefix new) → now ≡ before → IsTry table mode (fs ++ old ∷ []) (fs ++ new ∷ []) before now false
   unfolding found floods
-  turn-passed before now goes steps = search (rules, (old-events (λ prefix. Tick ∷ events_of table mode prefix new) goes), new-events, room-new)
+  try-passed before now goes steps = search (rules, (old-events (λ prefix. Tick ∷ events_of table mode prefix new) goes), new-events, room-new)
 
-  pub turn-flooded : (before now : ℕ) → GoesAs table mode old (λ prefix. Flood ∷ events_of table mode prefix new) → now ≡ before + 1 → IsTurn table mode (fs ++ old ∷ []) (fs ++ new ∷ []) before now false
+  pub try-flooded : (before now : ℕ) → GoesAs table mode old (λ prefix. Flood ∷ events_of table mode prefix new) → now ≡ before + 1 → IsTry table mode (fs ++ old ∷ []) (fs ++ new ∷ []) before now false
   unfolding found floods
-  turn-flooded before now goes steps = search (rules, (old-events (λ prefix. Flood ∷ events_of table mode prefix new) goes), new-events, room-new)
+  try-flooded before now goes steps = search (rules, (old-events (λ prefix. Flood ∷ events_of table mode prefix new) goes), new-events, room-new)
 
-  pub turn-full : (before now : ℕ) → GoesAs table mode old (λ prefix. Found (prefix ++ entered_placement new) ∷ events_of table mode prefix new) → now ≡ before → IsTurn table mode (fs ++ old ∷ []) (fs ++ new ∷ []) before now true
+  pub try-full : (before now : ℕ) → GoesAs table mode old (λ prefix. Found (prefix ++ entered_placement new) ∷ events_of table mode prefix new) → now ≡ before → IsTry table mode (fs ++ old ∷ []) (fs ++ new ∷ []) before now true
   unfolding found floods
-  turn-full before now goes steps =
+  try-full before now goes steps =
       search (rules, (old-events (λ prefix. Found (prefix ++ entered_placement new) ∷ events_of table mode prefix new) goes), new-events, room-new, (path-last fs new))
 
-  pub turn-over : (before now : ℕ) → GoesAs table mode old (λ prefix. Tick ∷ []) → now ≡ before → IsTurn table mode (fs ++ old ∷ []) fs before now false
+  pub try-over : (before now : ℕ) → GoesAs table mode old (λ prefix. Tick ∷ []) → now ≡ before → IsTry table mode (fs ++ old ∷ []) fs before now false
   unfolding found floods
-  turn-over before now goes steps = search (rules, (old-events (λ prefix. Tick ∷ []) goes), (room-last 0 fs old room))
+  try-over before now goes steps = search (rules, (old-events (λ prefix. Tick ∷ []) goes), (room-last 0 fs old room))
 
-  pub turn-entered : (before now : ℕ) (child : Frame) → GoesAs table mode old (λ prefix. Tick ∷ (events_of table mode (prefix ++ entered_placement new) child ++ events_of table mode prefix new)) → now ≡ before → child.setup.left + 1 ≡ old.setup.left →
-      IsTurn table mode (fs ++ old ∷ []) ((fs ++ new ∷ []) ++ child ∷ []) before now false
+  pub try-entered : (before now : ℕ) (child : Frame) → GoesAs table mode old (λ prefix. Tick ∷ (events_of table mode (prefix ++ entered_placement new) child ++ events_of table mode prefix new)) → now ≡ before → child.setup.left + 1 ≡ old.setup.left →
+      IsTry table mode (fs ++ old ∷ []) ((fs ++ new ∷ []) ++ child ∷ []) before now false
   unfolding found floods
-  turn-entered before now child goes steps fewer =
+  try-entered before now child goes steps fewer =
       search (rules, (stacked-last table mode [] (fs ++ new ∷ []) child), (path-last fs new), new-events, (append_assoc (events_of table mode (path_of fs ++ entered_placement new) child) (events_of table mode (path_of fs) new) below), (old-events (λ prefix. Tick ∷ (events_of table mode (prefix ++ entered_placement new) child ++ events_of table mode prefix new)) goes), (room-more 0 (fs ++ new ∷ []) child room-new), (room-last 0 fs old room), (length-append fs (new ∷ [])))
 
 -- ---- the frames in use, of which the deepest is written, and those behind it
@@ -131,17 +131,17 @@ module _ (table : Table) (mode : DropMode) (frames walked : List Frame) (same : 
   array-deeper room = search (rules, (room-last 0 before_last last (array-room room)), (length-take-le (depth - 1) walked))
 
   module _ (new : Frame) (behind : List Frame) (before now : ℕ) where
-    pub array-turn : (solved : Bool) → IsTurn table mode (before_last ++ last ∷ []) (before_last ++ new ∷ []) before now solved →
-        IsTurn table mode frames (take depth (set walked (depth - 1) new ++ behind)) before now solved
-    array-turn solved turn = search (rules, shape_of, (written-top walked (depth - 1)))
+    pub array-try : (solved : Bool) → IsTry table mode (before_last ++ last ∷ []) (before_last ++ new ∷ []) before now solved →
+        IsTry table mode frames (take depth (set walked (depth - 1) new ++ behind)) before now solved
+    array-try solved tries = search (rules, shape_of, (written-top walked (depth - 1)))
 
-    pub array-over : IsTurn table mode (before_last ++ last ∷ []) before_last before now false →
-        IsTurn table mode frames (take (depth - 1) (set walked (depth - 1) new ++ behind)) before now false
-    array-over turn = search (rules, shape_of, (written-below walked (depth - 1)))
+    pub array-over : IsTry table mode (before_last ++ last ∷ []) before_last before now false →
+        IsTry table mode frames (take (depth - 1) (set walked (depth - 1) new ++ behind)) before now false
+    array-over tries = search (rules, shape_of, (written-below walked (depth - 1)))
 
-    pub array-entered : (e : Frame) → 0 < length behind → IsTurn table mode (before_last ++ last ∷ []) ((before_last ++ new ∷ []) ++ get_or behind 0 e ∷ []) before now false →
-        IsTurn table mode frames (take (depth + 1) (set walked (depth - 1) new ++ behind)) before now false
-    array-entered e more turn = search (rules, shape_of, (written-deeper walked (depth - 1)))
+    pub array-entered : (e : Frame) → 0 < length behind → IsTry table mode (before_last ++ last ∷ []) ((before_last ++ new ∷ []) ++ get_or behind 0 e ∷ []) before now false →
+        IsTry table mode frames (take (depth + 1) (set walked (depth - 1) new ++ behind)) before now false
+    array-entered e more tries = search (rules, shape_of, (written-deeper walked (depth - 1)))
 
 -- what was found before stays found
 pub finds-more : (first old new : List (List Placement)) (path : List Placement) (solved some : Bool) → first ≡ old → Finds old new path solved → solved ≡ true → some ≡ true → Finds first new path some

@@ -22,10 +22,10 @@ use Rattle.hold_queue.specs.QueueSet.{queues_in_play}
 use Rattle.enumerate.specs.Frames.{places_left}
 use Rattle.enumerate.specs.Setups.{IsSupplyAfter, LeadsOn}
 use Rattle.enumerate.specs.declared.frame.Frame.{Frame}
-use Rattle.enumerate.specs.Position.{may_play}
+use Rattle.enumerate.specs.SearchState.{may_play}
 use Rattle.enumerate.specs.Standing.{may_lock}
 use Rattle.enumerate.proofs.PlaceLaws.{lockable-piece}
-use Rattle.enumerate.proofs.TurnLemmas.{filter-both, filter-same}
+use Rattle.enumerate.proofs.TryLemmas.{filter-both, filter-same}
 
 -- what places hold is among the placements of their piece
 abbrev pub Listed : LowPlaces → Type 0

@@ -31,8 +31,8 @@ use Rattle.empty_cells.proofs.CallerLemmas.{left_by_placement, tiling_below, til
 use Rattle.problem.specs.Plays.{Plays}
 use Rattle.problem.specs.Solution.{pieces_of}
 use Rattle.enumerate.specs.declared.setup.Setup.{Setup}
-use Rattle.enumerate.specs.Setups.{position_of}
-use Rattle.enumerate.specs.Position.{Position, after_of, can_be_tiled, is_live}
+use Rattle.enumerate.specs.Setups.{state_of}
+use Rattle.enumerate.specs.SearchState.{SearchState, after_of, can_be_tiled, is_live}
 use Rattle.problem.proofs.CallerLemmas.{IsLow, locked-low}
 use Rattle.moves.proofs.CallerLemmas.{place-free}
 use Rattle.empty_cells.specs.SupplyWords
@@ -51,7 +51,7 @@ pieces-counted s piece = sym (counted s)
     counted (q ∷ s) = omega (arith, sum_by-cons (λ other. cond (piece_code other == piece_code piece) 1 0) q.piece (pieces_of s), sum_by-cons (λ (q : Placement). cond (piece_code q.piece == piece_code piece) 1 0) q s, counted s)
 
 -- so where a sequence plays to the end and some queue permits its pieces, what may still be played has a tiling
-pub played-tiled : (n : Position) (s : List Placement) → IsLow n.field n.rows → Plays n.table n.mode n.field n.rows s → QueuesPermit n.line (n.line.played ++ pieces_of s) → can_be_tiled (length s) n ≡ true
+pub played-tiled : (n : SearchState) (s : List Placement) → IsLow n.field n.rows → Plays n.table n.mode n.field n.rows s → QueuesPermit n.line (n.line.played ++ pieces_of s) → can_be_tiled (length s) n ≡ true
 unfolding can_be_tiled
 played-tiled n s low plays permitted =
     (tiling_decided n.field n.rows (supply_of n.line (length s))).1
@@ -101,10 +101,10 @@ pub supply-moves : (line : QueuesInPlay) (piece : Piece) (left : ℕ) (before af
     ((other : Piece) → after other ≡ min left (less_one before piece other)) → after ≡ supply_of (record line { played = line.played ++ piece ∷ [] }) left
 supply-moves line piece left before after is moves = fun_ext (λ other. moves other ∙ ap (λ (s : Supply). min left (less_one s piece other)) is ∙ supply-next line piece left other)
 
--- so whether a placement leads to a live position is told by what it leaves
+-- so whether a placement leads to a live state is told by what it leaves
 pub live-after : (table : Table) (mode : DropMode) (setup : Setup) (q : Placement) (supply : Supply) → ((other : Piece) → supply other ≡ min setup.left (less_one (SupplyWords.supply_of setup.supply) q.piece other)) →
-    (left : ℕ) → left + 1 ≡ setup.left → is_live left (after_of (position_of table mode setup) q) ≡ has_tiling (locked (filled setup.well) q) (setup.rows - rows_removed (filled setup.well) q) supply
-unfolding is_live can_be_tiled after_of position_of
+    (left : ℕ) → left + 1 ≡ setup.left → is_live left (after_of (state_of table mode setup) q) ≡ has_tiling (locked (filled setup.well) q) (setup.rows - rows_removed (filled setup.well) q) supply
+unfolding is_live can_be_tiled after_of state_of
 live-after table mode setup q supply moves left less = search (rules, (supply-moves (queues_in_play setup.line.queues) q.piece setup.left))
 
 -- what is left lies below the rows left

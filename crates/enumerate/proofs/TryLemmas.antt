@@ -1,4 +1,4 @@
--- What one turn does to the events that are still to come.
+-- What one try does to the events that are still to come.
 use Rattle.std.proofs.Common.{◌≡◌, ◌↔◌, ℕ, ◌+◌, ◌-◌, Bool, true, false, ◌&&◌, List, [], ◌∷◌, ◌++◌, refl, sym, ap, ◌∙◌, eq-eqb, append_assoc, rules}
 use Rattle.std.specs.Prelude.{Contains, Some, None, filter, drop, ◌==◌}
 use Rattle.std.specs.List.{flat_map}
@@ -25,13 +25,13 @@ use Rattle.hold_queue.proofs.CallerLemmas.{queues_permit-decides}
 use Rattle.enumerate.specs.declared.frame.Frame.{Frame}
 use Rattle.enumerate.specs.declared.setup.Setup.{Setup}
 use Rattle.well.specs.LockLaws.{is_below}
-use Rattle.enumerate.specs.Position.{Position, after_of, may_play, places_at, is_live}
+use Rattle.enumerate.specs.SearchState.{SearchState, after_of, may_play, places_at, is_live}
 use Rattle.enumerate.specs.Standing.{may_lock}
 use Rattle.enumerate.specs.Events.{Event, Tick, Flood, Found, Walk, entered, tried, tried_in_turn, enter}
 use Rattle.enumerate.specs.Frames.{places_left, events_of}
-use Rattle.enumerate.specs.Setups.{position_of}
-use Rattle.enumerate.specs.declared.turn.Turn.{Turn}
-use Rattle.enumerate.specs.Turns.{Enters, EntersAs, GoesAs, IsChild, Turns}
+use Rattle.enumerate.specs.Setups.{state_of}
+use Rattle.enumerate.specs.declared.trying.Tried.{Tried}
+use Rattle.enumerate.specs.Tries.{Enters, EntersAs, GoesAs, IsChild, Tries}
 use Rattle.enumerate.proofs.PlaceLaws.{place-lockable}
 
 pub filter-both : {A : Type 0} (a b : A → Bool) (xs : List A) → filter (λ x. a x && b x) xs ≡ filter b (filter a xs)
@@ -55,7 +55,7 @@ HeldBelow rows places = (q : Placement) → holds places q ≡ true → is_below
 -- what a flood below the rows left holds is the places there, in order
 module _ (table : Table) (F : Field) (mode : DropMode) (piece : Piece) (places : LowPlaces) (kind : piece_of places ≡ piece) (rows : ℕ)
     (held : (q : Placement) → (holds places q ≡ true) ↔ ((q.piece ≡ piece) × IsPlace table F mode q × (is_below rows q ≡ true))) where
-  pub flooded-places : (n : Position) → n.table ≡ table → n.mode ≡ mode → n.field ≡ F → places_left (Some places) None ≡ filter (is_below rows) (places_at n piece)
+  pub flooded-places : (n : SearchState) → n.table ≡ table → n.mode ≡ mode → n.field ≡ F → places_left (Some places) None ≡ filter (is_below rows) (places_at n piece)
   unfolding places_left places_at
   flooded-places n t m f =
       ap (λ p. filter (λ q. holds places q && true) (placements_of p)) kind
@@ -81,57 +81,57 @@ module _ (table : Table) (F : Field) (mode : DropMode) (piece : Piece) (places :
 
 -- ---- entering
 
--- the setup after a placement stands for the position there
+-- the setup after a placement stands for the state there
 module _ (setup child : Setup) (q : Placement) (field : filled child.well ≡ locked (filled setup.well) q) (rows : child.rows ≡ setup.rows - rows_removed (filled setup.well) q)
     (line : queues_in_play child.line.queues ≡ record (queues_in_play setup.line.queues) { played = (queues_in_play setup.line.queues).played ++ q.piece ∷ [] }) where
-  pub child-position : (table : Table) (mode : DropMode) → position_of table mode child ≡ after_of (position_of table mode setup) q
-  unfolding position_of after_of
-  child-position table mode = λ i. record { table = table; mode = mode; field = field i; rows = rows i; line = line i }
+  pub child-state : (table : Table) (mode : DropMode) → state_of table mode child ≡ after_of (state_of table mode setup) q
+  unfolding state_of after_of
+  child-state table mode = λ i. record { table = table; mode = mode; field = field i; rows = rows i; line = line i }
 
 module _ (setup : Setup) (q : Placement) (below : is_below setup.rows q ≡ true) where
   pub enters-full : setup.left ≡ 0 → setup.rows - rows_removed (filled setup.well) q ≡ 0 → EntersAs setup q (λ table mode prefix. Found prefix ∷ [])
-  unfolding entered position_of enter after_of
+  unfolding entered state_of enter after_of
   enters-full none done = search (rules, cond-true, eq-eqb)
 
   pub enters-rows_left : setup.left ≡ 0 → (setup.rows - rows_removed (filled setup.well) q == 0) ≡ false → EntersAs setup q (λ table mode prefix. Tick ∷ [])
-  unfolding entered position_of enter after_of
+  unfolding entered state_of enter after_of
   enters-rows_left none more = search (rules, cond-true, cond-false)
 
   -- the frame after a placement
-  module _ (child : Frame) (position : (table : Table) (mode : DropMode) → position_of table mode child.setup ≡ after_of (position_of table mode setup) q) where
-    pub is_child : child.setup.left + 1 ≡ setup.left → child.tried ≡ 0 → child.places ≡ None → ((table : Table) (mode : DropMode) → is_live child.setup.left (after_of (position_of table mode setup) q) ≡ true) → IsChild setup q child
+  module _ (child : Frame) (state : (table : Table) (mode : DropMode) → state_of table mode child.setup ≡ after_of (state_of table mode setup) q) where
+    pub is_child : child.setup.left + 1 ≡ setup.left → child.tried ≡ 0 → child.places ≡ None → ((table : Table) (mode : DropMode) → is_live child.setup.left (after_of (state_of table mode setup) q) ≡ true) → IsChild setup q child
     is_child left tried places live = search rules
 
-    pub enters_child : child.setup.left + 1 ≡ setup.left → child.tried ≡ 0 → child.places ≡ None → ((table : Table) (mode : DropMode) → is_live child.setup.left (after_of (position_of table mode setup) q) ≡ true) →
+    pub enters_child : child.setup.left + 1 ≡ setup.left → child.tried ≡ 0 → child.places ≡ None → ((table : Table) (mode : DropMode) → is_live child.setup.left (after_of (state_of table mode setup) q) ≡ true) →
         EntersAs setup q (λ table mode prefix. Tick ∷ events_of table mode prefix child)
-    unfolding entered enter events_of places_left position_of
+    unfolding entered enter events_of places_left state_of
     enters_child left tried places live = search (rules, cond-true)
 
-  -- a position that has no tiling
-  pub enters-dead : (left : ℕ) → left + 1 ≡ setup.left → ((table : Table) (mode : DropMode) → is_live left (after_of (position_of table mode setup) q) ≡ false) →
+  -- a state that has no tiling
+  pub enters-dead : (left : ℕ) → left + 1 ≡ setup.left → ((table : Table) (mode : DropMode) → is_live left (after_of (state_of table mode setup) q) ≡ false) →
       EntersAs setup q (λ table mode prefix. [])
-  unfolding entered enter position_of
+  unfolding entered enter state_of
   enters-dead left less dead = search (rules, cond-true, cond-false)
 
--- ---- trying kinds, and a whole turn
+-- ---- trying kinds, and a whole try
 
 -- what does not lie below the rows left is passed over
-pub entered-below : (walk : Walk) (prefix : List Placement) (n : Position) (qs : List Placement) → flat_map (entered walk prefix n) (filter (is_below n.rows) qs) ≡ flat_map (entered walk prefix n) qs
+pub entered-below : (walk : Walk) (prefix : List Placement) (n : SearchState) (qs : List Placement) → flat_map (entered walk prefix n) (filter (is_below n.rows) qs) ≡ flat_map (entered walk prefix n) qs
 unfolding entered
 entered-below walk prefix n [] = refl
 entered-below walk prefix n (q ∷ qs) =
     search (rules, cases_Bool, filter-true, filter-false, cond-false, (entered-below walk prefix n qs))
 
 events-shape : (table : Table) (mode : DropMode) (frame : Frame) (prefix : List Placement) → places_left frame.places frame.entered ≡ [] →
-    events_of table mode prefix frame ≡ tried_in_turn (enter frame.setup.left) prefix (position_of table mode frame.setup) (drop frame.tried all_pieces)
+    events_of table mode prefix frame ≡ tried_in_turn (enter frame.setup.left) prefix (state_of table mode frame.setup) (drop frame.tried all_pieces)
 unfolding events_of
 events-shape table mode frame prefix none = search rules
 
-tried_in_turn-cons : (walk : Walk) (prefix : List Placement) (n : Position) (c : Piece) (cs : List Piece) → tried_in_turn walk prefix n (c ∷ cs) ≡ tried walk prefix n c ++ tried_in_turn walk prefix n cs
+tried_in_turn-cons : (walk : Walk) (prefix : List Placement) (n : SearchState) (c : Piece) (cs : List Piece) → tried_in_turn walk prefix n (c ∷ cs) ≡ tried walk prefix n c ++ tried_in_turn walk prefix n cs
 unfolding tried_in_turn
 tried_in_turn-cons walk prefix n c cs = append_assoc (tried walk prefix n c) (flat_map (tried walk prefix n) cs) (Tick ∷ [])
 
-tried_in_turn-nil : (walk : Walk) (prefix : List Placement) (n : Position) → tried_in_turn walk prefix n [] ≡ Tick ∷ []
+tried_in_turn-nil : (walk : Walk) (prefix : List Placement) (n : SearchState) → tried_in_turn walk prefix n [] ≡ Tick ∷ []
 unfolding tried_in_turn
 tried_in_turn-nil walk prefix n = refl
 
@@ -146,41 +146,41 @@ goes-over table mode frame none last = search (rules, events-shape, tried_in_tur
 module _ (table : Table) (mode : DropMode) (old new : Frame) (same : new.setup ≡ old.setup) (c : Piece)
     (none : places_left old.places old.entered ≡ []) (next : drop old.tried all_pieces ≡ c ∷ drop new.tried all_pieces) where
   begins : (prefix : List Placement) → events_of table mode prefix old
-      ≡ tried (enter old.setup.left) prefix (position_of table mode old.setup) c ++ tried_in_turn (enter old.setup.left) prefix (position_of table mode old.setup) (drop new.tried all_pieces)
+      ≡ tried (enter old.setup.left) prefix (state_of table mode old.setup) c ++ tried_in_turn (enter old.setup.left) prefix (state_of table mode old.setup) (drop new.tried all_pieces)
   begins prefix = search (rules, events-shape, tried_in_turn-cons)
 
-  rest-same : (prefix : List Placement) → tried_in_turn (enter new.setup.left) prefix (position_of table mode new.setup) (drop new.tried all_pieces) ≡ tried_in_turn (enter old.setup.left) prefix (position_of table mode old.setup) (drop new.tried all_pieces)
-  rest-same prefix = λ i. tried_in_turn (enter (same i).left) prefix (position_of table mode (same i)) (drop new.tried all_pieces)
+  rest-same : (prefix : List Placement) → tried_in_turn (enter new.setup.left) prefix (state_of table mode new.setup) (drop new.tried all_pieces) ≡ tried_in_turn (enter old.setup.left) prefix (state_of table mode old.setup) (drop new.tried all_pieces)
+  rest-same prefix = λ i. tried_in_turn (enter (same i).left) prefix (state_of table mode (same i)) (drop new.tried all_pieces)
 
   pub goes-past_kind : may_play (queues_in_play old.setup.line.queues) c ≡ false → places_left new.places new.entered ≡ [] → (prefix : List Placement) → events_of table mode prefix old ≡ events_of table mode prefix new
-  unfolding tried position_of
+  unfolding tried state_of
   goes-past_kind not_played none_new prefix = search (rules, (begins prefix), cond-false, (events-shape table mode), (rest-same prefix))
 
-  pub goes-flooded : may_play (queues_in_play old.setup.line.queues) c ≡ true → places_left new.places new.entered ≡ filter (is_below old.setup.rows) (places_at (position_of table mode old.setup) c) → GoesAs table mode old (λ prefix. Flood ∷ events_of table mode prefix new)
-  unfolding tried position_of events_of
+  pub goes-flooded : may_play (queues_in_play old.setup.line.queues) c ≡ true → places_left new.places new.entered ≡ filter (is_below old.setup.rows) (places_at (state_of table mode old.setup) c) → GoesAs table mode old (λ prefix. Flood ∷ events_of table mode prefix new)
+  unfolding tried state_of events_of
   goes-flooded played places = record {
     same = λ prefix.
         begins prefix
-        ∙ ap (λ l. l ++ tried_in_turn (enter old.setup.left) prefix (position_of table mode old.setup) (drop new.tried all_pieces))
-        (cond-true (may_play (queues_in_play old.setup.line.queues) c) (Flood ∷ flat_map (entered (enter old.setup.left) prefix (position_of table mode old.setup)) (places_at (position_of table mode old.setup) c)) [] played)
-        ∙ ap (λ l. Flood ∷ (l ++ tried_in_turn (enter old.setup.left) prefix (position_of table mode old.setup) (drop new.tried all_pieces)))
-        (sym (entered-below (enter old.setup.left) prefix (position_of table mode old.setup) (places_at (position_of table mode old.setup) c)))
+        ∙ ap (λ l. l ++ tried_in_turn (enter old.setup.left) prefix (state_of table mode old.setup) (drop new.tried all_pieces))
+        (cond-true (may_play (queues_in_play old.setup.line.queues) c) (Flood ∷ flat_map (entered (enter old.setup.left) prefix (state_of table mode old.setup)) (places_at (state_of table mode old.setup) c)) [] played)
+        ∙ ap (λ l. Flood ∷ (l ++ tried_in_turn (enter old.setup.left) prefix (state_of table mode old.setup) (drop new.tried all_pieces)))
+        (sym (entered-below (enter old.setup.left) prefix (state_of table mode old.setup) (places_at (state_of table mode old.setup) c)))
         ∙ ap (λ l. Flood ∷ l)
-        (sym ((λ i. flat_map (entered (enter (same i).left) prefix (position_of table mode (same i))) (places i)
-        ++ tried_in_turn (enter (same i).left) prefix (position_of table mode (same i)) (drop new.tried all_pieces))));
+        (sym ((λ i. flat_map (entered (enter (same i).left) prefix (state_of table mode (same i))) (places i)
+        ++ tried_in_turn (enter (same i).left) prefix (state_of table mode (same i)) (drop new.tried all_pieces))));
   }
 
 -- the next placement is entered
 module _ (table : Table) (mode : DropMode) (old new : Frame) (same : new.setup ≡ old.setup) (q : Placement)
     (first : places_left old.places old.entered ≡ q ∷ places_left new.places new.entered) (kinds : new.tried ≡ old.tried) where
-  pub one-entered : (prefix : List Placement) → events_of table mode prefix old ≡ entered (enter new.setup.left) prefix (position_of table mode new.setup) q ++ events_of table mode prefix new
+  pub one-entered : (prefix : List Placement) → events_of table mode prefix old ≡ entered (enter new.setup.left) prefix (state_of table mode new.setup) q ++ events_of table mode prefix new
   unfolding events_of
   one-entered prefix = search (rules, append_assoc)
 
   pub one-passed : EntersAs new.setup q (λ table mode prefix. []) → (prefix : List Placement) → events_of table mode prefix old ≡ events_of table mode prefix new
   one-passed enters prefix = one-entered prefix ∙ ap (λ l. l ++ events_of table mode prefix new) (enters.same table mode prefix)
 
--- where nothing is left to enter at a frame, what it does is what another does at its position with the same kinds
+-- where nothing is left to enter at a frame, what it does is what another does at its state with the same kinds
 module _ (table : Table) (mode : DropMode) (old mid : Frame) (same : mid.setup ≡ old.setup) (kinds : mid.tried ≡ old.tried)
     (none : places_left old.places old.entered ≡ []) (none_mid : places_left mid.places mid.entered ≡ []) where
   goes-from : (events : List Placement → List Event) → GoesAs table mode mid events → GoesAs table mode old events
@@ -196,13 +196,13 @@ line-permits line c played = (queues_permit-decides line (line.played ++ c ∷ [
 pub not-zero : (k : ℕ) → (k ≡ 0 → ⊥) → (k == 0) ≡ false
 not-zero k differs = search (rules, cases_Bool, eqb-true)
 
--- a turn that enters a placement
+-- a try that enters a placement
 module _ (table : Table) (mode : DropMode) (old new : Frame) (left : new.setup.left ≡ old.setup.left) (q : Placement) (step : new.entered ≡ Some q)
-    (goes : (prefix : List Placement) → events_of table mode prefix old ≡ entered (enter new.setup.left) prefix (position_of table mode new.setup) q ++ events_of table mode prefix new) where
-  pub enters-turn : (child : Frame) (result : Turn) (steps : ℕ) → Enters new.setup q child result → Turns table mode old new child result steps steps
-  enters-turn child result steps enters = search rules
+    (goes : (prefix : List Placement) → events_of table mode prefix old ≡ entered (enter new.setup.left) prefix (state_of table mode new.setup) q ++ events_of table mode prefix new) where
+  pub enters-try : (child : Frame) (result : Tried) (steps : ℕ) → Enters new.setup q child result → Tries table mode old new child result steps steps
+  enters-try child result steps enters = search rules
 
--- what a turn comes to at a frame that does what another does
-pub turns-as : (table : Table) (mode : DropMode) (old mid new child : Frame) (result : Turn) (before now : ℕ) → mid.setup.left ≡ old.setup.left →
-    ((prefix : List Placement) → events_of table mode prefix old ≡ events_of table mode prefix mid) → Turns table mode mid new child result before now → Turns table mode old new child result before now
-turns-as table mode old mid new child result before now left goes turns = search rules
+-- what a try comes to at a frame that does what another does
+pub tries-as : (table : Table) (mode : DropMode) (old mid new child : Frame) (result : Tried) (before now : ℕ) → mid.setup.left ≡ old.setup.left →
+    ((prefix : List Placement) → events_of table mode prefix old ≡ events_of table mode prefix mid) → Tries table mode mid new child result before now → Tries table mode old new child result before now
+tries-as table mode old mid new child result before now left goes tries = search rules

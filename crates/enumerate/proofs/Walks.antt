@@ -1,11 +1,11 @@
--- What a walk finds is the list of solutions from its position on, each after the prefix.
+-- What a walk finds is the list of solutions from its state on, each after the prefix.
 use Rattle.std.proofs.Common.{◌≡◌, ℕ, zero, suc, ◌+◌, Bool, List, [], ◌∷◌, ◌++◌, map, refl, sym, ap, ◌∙◌, arith, append_assoc, rules}
 use Rattle.std.specs.Prelude.{◌==◌, if◌then◌else◌}
 use Rattle.std.specs.List.{flat_map}
 use Rattle.std.proofs.lemmas.List.{append-nil, map-append}
 use Rattle.srs.specs.declared.piece.Piece.{Piece}
 use Rattle.srs.specs.declared.placement.Placement.{Placement}
-use Rattle.enumerate.specs.Position.{Position, places_at}
+use Rattle.enumerate.specs.SearchState.{SearchState, places_at}
 use Rattle.enumerate.specs.Events.{Event, Tick, Flood, Found, found, floods, Walk, entered, tried, tried_in_turn, enter}
 use Rattle.enumerate.proofs.Solutions.{Sequences, of_place, of_kind, sols}
 
@@ -52,9 +52,9 @@ prefixed-nil (s ∷ l) = ap (λ l. s ∷ l) (prefixed-nil l)
 
 -- a walk finds these sequences
 pub record Finds (walk : Walk) (S : Sequences) : Type 0 where
-  pub same : (prefix : List Placement) (n : Position) → found (walk prefix n) ≡ prefixed prefix (S n)
+  pub same : (prefix : List Placement) (n : SearchState) → found (walk prefix n) ≡ prefixed prefix (S n)
 
-module _ (walk : Walk) (S : Sequences) (finds : Finds walk S) (prefix : List Placement) (n : Position) where
+module _ (walk : Walk) (S : Sequences) (finds : Finds walk S) (prefix : List Placement) (n : SearchState) where
   found-entered : (q : Placement) → found (entered walk prefix n q) ≡ prefixed prefix (of_place S n q)
   unfolding entered of_place found prefixed
   found-entered q = search (rules, prefixed-cons)

@@ -8,7 +8,7 @@ use Rattle.srs.specs.Order.{placement_cmp}
 use Rattle.srs.specs.Rising.{is_above}
 use Rattle.moves.specs.PlaceTest.{is_place}
 use Rattle.well.specs.LockLaws.{is_below}
-use Rattle.enumerate.specs.Position.{Position, after_of, may_play, places_at, is_live}
+use Rattle.enumerate.specs.SearchState.{SearchState, after_of, may_play, places_at, is_live}
 
 pub data Event : Type 0 where
   Tick : Event
@@ -29,21 +29,21 @@ floods (Tick ∷ events) = floods events
 floods (Flood ∷ events) = floods events + 1
 floods (Found sequence ∷ events) = floods events
 
--- what is done after a prefix, from the position there on
+-- what is done after a prefix, from the state there on
 abbrev pub Walk : Type 0
-Walk = List Placement → Position → List Event
+Walk = List Placement → SearchState → List Event
 
 -- a placement is entered where it lies below the rows left, and else nothing is done
-unfoldable pub entered : Walk → List Placement → Position → Placement → List Event
+unfoldable pub entered : Walk → List Placement → SearchState → Placement → List Event
 entered walk prefix n q = if is_below n.rows q then walk (prefix ++ q ∷ []) (after_of n q) else []
 
 -- a kind that may be played is flooded, and each of its places entered; at another kind nothing is done
-unfoldable pub tried : Walk → List Placement → Position → Piece → List Event
+unfoldable pub tried : Walk → List Placement → SearchState → Piece → List Event
 tried walk prefix n piece =
     if may_play n.line piece then Flood ∷ flat_map (entered walk prefix n) (places_at n piece) else []
 
 -- these kinds are tried, one after the other
-unfoldable pub tried_in_turn : Walk → List Placement → Position → List Piece → List Event
+unfoldable pub tried_in_turn : Walk → List Placement → SearchState → List Piece → List Event
 tried_in_turn walk prefix n pieces = flat_map (tried walk prefix n) pieces ++ Tick ∷ []
 
 -- With so many placements to come: where none is, the prefix is a solution where no row is left, and else there is
@@ -53,14 +53,14 @@ enter zero prefix n = (if n.rows == 0 then Found prefix else Tick) ∷ []
 enter (suc left) prefix n = if is_live left n then Tick ∷ tried_in_turn (enter left) prefix n all_pieces else []
 
 -- the same at the beginning, where the empty prefix is no solution
-unfoldable pub begun : ℕ → Position → List Event
+unfoldable pub begun : ℕ → SearchState → List Event
 begun zero n = []
 begun (suc left) n = if is_live left n then tried_in_turn (enter left) [] n all_pieces else []
 
 -- What is done after a given sequence: its first placement is flooded where it may be played, and where it is a place
 -- below the rows left, what is done after the rest of the sequence comes first; then the later places and the later
 -- kinds.
-unfoldable pub sought : ℕ → List Placement → Position → List Placement → List Event
+unfoldable pub sought : ℕ → List Placement → SearchState → List Placement → List Event
 sought zero prefix n given = []
 sought (suc left) prefix n [] = if is_live left n then tried_in_turn (enter left) prefix n all_pieces else []
 sought (suc left) prefix n (q ∷ given) =

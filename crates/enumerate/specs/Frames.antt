@@ -12,7 +12,7 @@ use Rattle.moves.specs.declared.key.DropMode.{DropMode}
 use Rattle.place_sets.specs.declared.low_held.LowPlaces.{LowPlaces}
 use Rattle.place_sets.specs.LowPlaces.{holds, piece_of}
 use Rattle.enumerate.specs.declared.frame.Frame.{Frame}
-use Rattle.enumerate.specs.Setups.{position_of}
+use Rattle.enumerate.specs.Setups.{state_of}
 use Rattle.enumerate.specs.Events.{Event, entered, tried_in_turn, enter}
 
 -- the held placements above the one that was entered last
@@ -28,11 +28,11 @@ entered_placement frame = option_to_list frame.entered
 -- what is still to be done at a frame
 unfoldable pub events_of : Table → DropMode → List Placement → Frame → List Event
 events_of table mode prefix frame =
-    flat_map (entered (enter frame.setup.left) prefix (position_of table mode frame.setup))
+    flat_map (entered (enter frame.setup.left) prefix (state_of table mode frame.setup))
     (places_left frame.places frame.entered)
-    ++ tried_in_turn (enter frame.setup.left) prefix (position_of table mode frame.setup) (drop frame.tried all_pieces)
+    ++ tried_in_turn (enter frame.setup.left) prefix (state_of table mode frame.setup) (drop frame.tried all_pieces)
 
--- what is still to be done at frames, from the first position on: the deepest one comes first
+-- what is still to be done at frames, from the first state on: the deepest one comes first
 unfoldable pub stacked : Table → DropMode → List Placement → List Frame → List Event
 stacked table mode prefix [] = []
 stacked table mode prefix (frame ∷ frames) =

@@ -1,5 +1,5 @@
 -- What a reader must believe
-pub mod Position
+pub mod SearchState
 pub mod Work
 pub mod Counted
 pub mod Items
@@ -10,7 +10,7 @@ pub mod Events
 pub mod Standing
 pub mod Setups
 pub mod Frames
-pub mod Turns
+pub mod Tries
 pub mod Walks
 pub mod Seeks
 pub mod Rest

@@ -6,7 +6,7 @@ use Rattle.srs.specs.Rules.{table_of}
 use Rattle.problem.specs.declared.problem.Problem.{Problem}
 use Rattle.enumerate.specs.declared.frame.Frame.{Frame}
 use Rattle.problem.specs.Problem.{needed_of}
-use Rattle.enumerate.specs.Position.{root_of}
+use Rattle.enumerate.specs.SearchState.{root_of}
 use Rattle.enumerate.specs.Events.{Event, begun, sought}
 use Rattle.enumerate.specs.Frames.{stacked}
 

@@ -1,4 +1,4 @@
--- Positions of a search: the rules, a field, the rows that are left, and the queues with the pieces that were played.
+-- States of a search: the rules, a field, the rows that are left, and the queues with the pieces that were played.
 use Rattle.std.specs.Prelude.{ℕ, suc, ◌-◌, Bool, Option, Some, None, List, [], ◌∷◌, ◌++◌, filter}
 use Rattle.lane_board.specs.Field.{Field}
 use Rattle.srs.specs.declared.piece.Piece.{Piece}
@@ -16,7 +16,7 @@ use Rattle.hold_queue.specs.Supply.{supply_of}
 use Rattle.empty_cells.specs.HasTiling.{has_tiling}
 use Rattle.problem.specs.declared.problem.Problem.{Problem}
 
-pub record Position : Type 0 where
+pub record SearchState : Type 0 where
   pub table : Table
   pub mode : DropMode
   pub field : Field
@@ -27,8 +27,8 @@ pub record Position : Type 0 where
 abbrev pub line_after : QueuesInPlay → Piece → QueuesInPlay
 line_after line piece = record line { played = line.played ++ piece ∷ [] }
 
--- the position after one more placement
-unfoldable pub after_of : Position → Placement → Position
+-- the state after one more placement
+unfoldable pub after_of : SearchState → Placement → SearchState
 after_of n q = record {
   table = n.table;
   mode = n.mode;
@@ -42,15 +42,15 @@ unfoldable pub may_play : QueuesInPlay → Piece → Bool
 may_play line piece = queues_permit line (line.played ++ piece ∷ [])
 
 -- the placements of a piece that legal keys reach, in order
-unfoldable pub places_at : Position → Piece → List Placement
+unfoldable pub places_at : SearchState → Piece → List Placement
 places_at n piece = filter (is_place n.table n.field n.mode) (placements_of piece)
 
 -- the empty cells of the rows left have a tiling by what may still be played, with so many placements to come
-unfoldable pub can_be_tiled : ℕ → Position → Bool
+unfoldable pub can_be_tiled : ℕ → SearchState → Bool
 can_be_tiled left n = has_tiling n.field n.rows (supply_of n.line left)
 
--- whether a position is worth a look, with so many placements to come after the next one
-unfoldable pub is_live : ℕ → Position → Bool
+-- whether a state is worth a look, with so many placements to come after the next one
+unfoldable pub is_live : ℕ → SearchState → Bool
 is_live left n = can_be_tiled (suc left) n
 
 -- the queues that count, with nothing played: one of them alone, or all of the pattern
@@ -68,8 +68,8 @@ line_at problem (Some queue) = record {
   played = [];
 }
 
--- the position at which a search begins
-unfoldable pub root_of : Problem → Option (List Piece) → Position
+-- the state at which a search begins
+unfoldable pub root_of : Problem → Option (List Piece) → SearchState
 root_of problem queue = record {
   table = table_of problem.rules;
   mode = problem.drop_mode;

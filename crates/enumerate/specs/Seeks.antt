@@ -4,16 +4,16 @@ use Rattle.srs.specs.declared.placement.Placement.{Placement}
 use Rattle.srs.specs.Kick.{Table}
 use Rattle.moves.specs.declared.key.DropMode.{DropMode}
 use Rattle.enumerate.specs.declared.frame.Frame.{Frame}
-use Rattle.enumerate.specs.Position.{is_live}
+use Rattle.enumerate.specs.SearchState.{is_live}
 use Rattle.enumerate.specs.Events.{Event, found, floods, sought}
 use Rattle.enumerate.specs.Frames.{events_of, has_room, path_of, stacked, entered_placement}
-use Rattle.enumerate.specs.Setups.{position_of}
+use Rattle.enumerate.specs.Setups.{state_of}
 
 -- nothing was tried at the frame, and it is worth a look
 pub record IsFresh (table : Table) (mode : DropMode) (frame : Frame) : Type 0 where
   pub tried : frame.tried ≡ 0
   pub places : frame.places ≡ None
-  pub live : is_live frame.setup.left (position_of table mode frame.setup) ≡ true
+  pub live : is_live frame.setup.left (state_of table mode frame.setup) ≡ true
 
 -- nothing was found on the way, and the floods on the way are counted
 pub record SkipsTo (old new : List Event) (before now : ℕ) : Type 0 where
@@ -25,12 +25,12 @@ pub record SkipsTo (old new : List Event) (before now : ℕ) : Type 0 where
 abbrev pub Skips : Table → DropMode → Frame → Frame → Placement → Frame → Bool → ℕ → ℕ → Type 0
 Skips table mode old new q child false before now =
     (prefix given : List Placement) →
-    SkipsTo (sought (suc old.setup.left) prefix (position_of table mode old.setup) (q ∷ given))
+    SkipsTo (sought (suc old.setup.left) prefix (state_of table mode old.setup) (q ∷ given))
     (events_of table mode prefix new) before now
 Skips table mode old new q child true before now =
     ((prefix given : List Placement) → SkipsTo
-    (sought (suc old.setup.left) prefix (position_of table mode old.setup) (q ∷ given))
-    (sought (suc child.setup.left) (prefix ++ entered_placement new) (position_of table mode child.setup) given
+    (sought (suc old.setup.left) prefix (state_of table mode old.setup) (q ∷ given))
+    (sought (suc child.setup.left) (prefix ++ entered_placement new) (state_of table mode child.setup) given
     ++ events_of table mode prefix new) before now)
     × IsFresh table mode child × (child.setup.left + 1 ≡ old.setup.left)
 
@@ -38,7 +38,7 @@ Skips table mode old new q child true before now =
 abbrev pub sought_at : Table → DropMode → List Frame → ℕ → List Placement → Frame → List Event
 sought_at table mode frames top given d =
     sought (suc (slice_index_or frames top d).setup.left) (path_of (take top frames))
-    (position_of table mode (slice_index_or frames top d).setup) given
+    (state_of table mode (slice_index_or frames top d).setup) given
     ++ stacked table mode [] (take top frames)
 
 -- one more frame is in use, and at it one placement less is to be passed by

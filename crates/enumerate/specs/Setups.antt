@@ -1,4 +1,4 @@
--- What setups stand for: positions under the rules.
+-- What setups stand for: states under the rules.
 use Rattle.std.specs.Prelude.{◌≡◌, ℕ, ◌+◌, ◌-◌, true, min}
 use Rattle.srs.specs.declared.piece.Piece.{Piece}
 use Rattle.srs.specs.declared.placement.Placement.{Placement}
@@ -10,10 +10,10 @@ use Rattle.prune.specs.OnePart.{less_one}
 use Rattle.empty_cells.specs.SupplyWords.{supply_of}
 use Rattle.enumerate.specs.declared.setup.NextSupply.{NextSupply}
 use Rattle.enumerate.specs.declared.setup.Setup.{Setup}
-use Rattle.enumerate.specs.Position.{Position, after_of, is_live}
+use Rattle.enumerate.specs.SearchState.{SearchState, after_of, is_live}
 
-unfoldable pub position_of : Table → DropMode → Setup → Position
-position_of table mode setup = record {
+unfoldable pub state_of : Table → DropMode → Setup → SearchState
+state_of table mode setup = record {
   table = table;
   mode = mode;
   field = filled setup.well;
@@ -27,7 +27,7 @@ pub record IsSupplyAfter (setup : Setup) (piece : Piece) (next : NextSupply) : T
   pub supplied : (other : Piece) → supply_of next.supply other ≡ min setup.left (less_one (supply_of setup.supply) piece other)
   pub limits : (other : Piece) → supply_of next.limited other ≡ min (setup.left - 1) (supply_of next.supply other)
 
--- where one more placement is to come, the position after this one is live, whatever the rules
+-- where one more placement is to come, the state after this one is live, whatever the rules
 abbrev pub LeadsOn : Setup → Placement → Type 0
 LeadsOn setup q = (table : Table) (mode : DropMode) (left : ℕ) → left + 1 ≡ setup.left →
-    is_live left (after_of (position_of table mode setup) q) ≡ true
+    is_live left (after_of (state_of table mode setup) q) ≡ true

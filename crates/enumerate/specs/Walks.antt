@@ -13,7 +13,7 @@ Finds old new path true = old ≡ path ∷ new
 Finds old new path false = old ≡ new
 
 -- the frames go on by one event, and the path is a solution where it is true
-pub record IsTurn (table : Table) (mode : DropMode) (old new : List Frame) (before now : ℕ)
+pub record IsTry (table : Table) (mode : DropMode) (old new : List Frame) (before now : ℕ)
     (solved : Bool) : Type 0 where
   pub room : IsTrue (has_room 0 new)
   pub finds : Finds (found (stacked table mode [] old)) (found (stacked table mode [] new)) (path_of new) solved

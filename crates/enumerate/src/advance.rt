@@ -4,11 +4,11 @@ ghost use Rattle.reach.specs.FloodRules.{flood_table};
 ghost use Rattle.enumerate.specs.Counted.{CountsUp};
 ghost use Rattle.enumerate.specs.Events.{found, floods};
 ghost use Rattle.enumerate.specs.Frames.{has_room, path_of, stacked};
-ghost use Rattle.enumerate.specs.Walks.{Finds, IsTurn};
+ghost use Rattle.enumerate.specs.Walks.{Finds, IsTry};
 
 use crate::frame::Frame;
 use crate::notes::Notes;
-use crate::turn::Turn;
+use crate::trying::Tried;
 use moves::DropMode;
 use problem::Sequence;
 use reach::{FloodRules, Steps};
@@ -28,9 +28,9 @@ pub fn path(frames: &[Frame]) -> Sequence
     sequence
 }
 
-/// One turn at the deepest of the frames in use. Returns how many frames are in use afterwards, and whether a solution
+/// One try at the deepest of the frames in use. Returns how many frames are in use afterwards, and whether a solution
 /// was completed.
-fn turn<L: Ledger>(
+fn try_deepest<L: Ledger>(
     frames: &mut [Frame; 20],
     depth: usize,
     rules: &FloodRules,
@@ -43,19 +43,19 @@ fn turn<L: Ledger>(
     requires room { IsTrue (has_room 0 (take depth frames.old)) }
     ensures within { result.0 ≤ 20 }
     ensures solved { result.1 ≡ true → 0 < result.0 }
-    ensures turn { IsTurn (flood_table rules.now) drop_mode (take depth frames.old)
+    ensures tries { IsTry (flood_table rules.now) drop_mode (take depth frames.old)
         (take result.0 frames.new) steps.old steps.new result.1 }
     ensures noted { CountsUp notes.old.floods notes.new.floods steps.old steps.new }
 {
     let top = depth - 1;
     let (walked, behind) = frames.split_at_mut(depth);
     let frame = &mut walked[top];
-    match frame.turn(rules, drop_mode, behind, notes, steps) {
-        Turn::Passed => (depth, false),
-        Turn::Flooded => (depth, false),
-        Turn::Entered => (depth + 1, false),
-        Turn::Full => (depth, true),
-        Turn::Over => (top, false),
+    match frame.try_next(rules, drop_mode, behind, notes, steps) {
+        Tried::Passed => (depth, false),
+        Tried::Flooded => (depth, false),
+        Tried::Entered => (depth + 1, false),
+        Tried::Full => (depth, true),
+        Tried::Over => (top, false),
     }
 }
 
@@ -84,7 +84,7 @@ pub fn advance<L: Ledger>(
 {
     let mut depth = depth;
     while depth > 0 {
-        let (next, found) = turn(frames, depth, rules, drop_mode, notes, steps);
+        let (next, found) = try_deepest(frames, depth, rules, drop_mode, notes, steps);
         depth = next;
         if found {
             return depth;

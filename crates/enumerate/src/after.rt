@@ -1,4 +1,4 @@
-// What placements leave at a position, and the position after one.
+// What placements leave at a state, and the state after one.
 ghost use Rattle.std.specs.Prelude.{◌≡◌, ◌↔◌, ◌+◌, ◌-◌, ◌<◌, ◌≤◌, IsTrue, true, false, [], min};
 ghost use Rattle.lane_board.specs.Field.{difference, rows_below};
 ghost use Rattle.srs.specs.declared.piece.Piece.{Piece};
@@ -16,15 +16,15 @@ ghost use Rattle.prune.specs.OnePart.{less_one};
 ghost use Rattle.empty_cells.specs.Empties.{empty_cells};
 ghost use Rattle.empty_cells.specs.HasTiling.{has_tiling};
 ghost use Rattle.empty_cells.specs.SupplyWords.{supply_of};
-ghost use Rattle.enumerate.specs.Position.{after_of, is_live, may_play};
-ghost use Rattle.enumerate.specs.Setups.{IsSupplyAfter, LeadsOn, position_of};
+ghost use Rattle.enumerate.specs.SearchState.{after_of, is_live, may_play};
+ghost use Rattle.enumerate.specs.Setups.{IsSupplyAfter, LeadsOn, state_of};
 ghost use Rattle.enumerate.specs.Standing.{may_lock};
-ghost use Rattle.enumerate.specs.Turns.{Enters, EntersAs};
+ghost use Rattle.enumerate.specs.Tries.{Enters, EntersAs};
 ghost use Rattle.enumerate.specs.declared.frame.Frame.{Frame};
 
 use crate::setup::{NextSupply, Setup};
 use crate::tilings::{Found, Tilings};
-use crate::turn::Turn;
+use crate::trying::Tried;
 use empty_cells::{Empties, SupplyWord};
 use hold_queue::QueueMemory;
 use moves::DropMode;
@@ -33,14 +33,14 @@ use srs::{Piece, Placement};
 use std::sync::ledger::Ledger;
 use well::Well;
 
-/// A position without a tiling is kept if at least this many placements are to come.
+/// A state without a tiling is kept if at least this many placements are to come.
 pub const MANY: u8 = 8;
 
 impl Setup {
     /// Whether the empty cells of the rows that are left have a tiling by what may still be played.
     pub fn is_live(&self, tilings: &mut Tilings) -> bool
         ensures { (table : Table) (mode : DropMode)
-            → result ≡ is_live self.now.left (position_of table mode self.now) }
+            → result ≡ is_live self.now.left (state_of table mode self.now) }
     {
         tilings.has_tiling(&self.well, self.rows, &self.supply.entries())
     }
@@ -144,7 +144,7 @@ impl Setup {
     }
 
     /// Enters a placement that must be the last one.
-    pub fn complete(&self, placement: &Placement) -> Turn
+    pub fn complete(&self, placement: &Placement) -> Tried
         requires lockable { IsTrue (may_lock (filled self.now.well) placement.now.piece placement.now) }
         requires below { IsTrue (is_below self.now.rows placement.now) }
         requires last { self.now.left ≡ 0 }
@@ -152,9 +152,9 @@ impl Setup {
     {
         let (_, removed) = self.well.lock(placement);
         if self.rows.saturating_sub(removed) == 0 {
-            return Turn::Full;
+            return Tried::Full;
         }
-        Turn::Passed
+        Tried::Passed
     }
 
     /// Whether there is something to do at a placement: none is to come after it, or what it leaves has a tiling by the
@@ -177,7 +177,7 @@ impl Setup {
         self.leaves_tiling(placement, next_supply.supply, tilings)
     }
 
-    /// Makes `child` the position after a placement.
+    /// Makes `child` the state after a placement.
     pub fn lead_to(
         &self,
         placement: &Placement,
@@ -191,8 +191,8 @@ impl Setup {
         requires permitted { IsTrue (may_play (queues_in_play self.now.line.queues) placement.now.piece) }
         requires some { 1 ≤ self.now.left }
         ensures left { child.new.left + 1 ≡ self.now.left }
-        ensures position { (table : Table) (mode : DropMode)
-            → position_of table mode child.new ≡ after_of (position_of table mode self.now) placement.now }
+        ensures state { (table : Table) (mode : DropMode)
+            → state_of table mode child.new ≡ after_of (state_of table mode self.now) placement.now }
     {
         child.well = self.well;
         child.well.fill(placement);

@@ -1,4 +1,4 @@
-// One level of the search: a position, and which of its next placements are still to be searched.
+// One level of the search: a state, and which of its next placements are still to be searched.
 ghost use Rattle.std.specs.Prelude.{◌≡◌, IsTrue};
 ghost use Rattle.std.specs.Option.{ForSome};
 ghost use Rattle.srs.specs.declared.placement.Placement.{Placement};
@@ -6,7 +6,7 @@ ghost use Rattle.well.specs.Well.{filled};
 ghost use Rattle.well.specs.LockLaws.{is_below};
 ghost use Rattle.place_sets.specs.LowPlaces.{holds, piece_of};
 ghost use Rattle.hold_queue.specs.QueueSet.{queues_in_play};
-ghost use Rattle.enumerate.specs.Position.{may_play};
+ghost use Rattle.enumerate.specs.SearchState.{may_play};
 ghost use Rattle.enumerate.specs.Setups.{IsSupplyAfter, LeadsOn};
 ghost use Rattle.enumerate.specs.Standing.{may_lock};
 
@@ -14,7 +14,7 @@ use crate::setup::{NextSupply, Setup};
 use reach::LowPlaces;
 use srs::Placement;
 
-/// A position, how many kinds were tried there, and the places of the last of them with the one that was entered last.
+/// A state, how many kinds were tried there, and the places of the last of them with the one that was entered last.
 #[derive(Clone, Copy)]
 pub struct Frame {
     pub setup: Setup,

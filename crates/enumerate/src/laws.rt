@@ -16,7 +16,7 @@ ghost use Rattle.problem.specs.Plays.{Plays};
 ghost use Rattle.problem.specs.Problem.{IsFit};
 ghost use Rattle.problem.specs.Solution.{IsSolution};
 ghost use Rattle.problem.specs.SolutionList.{IsList};
-ghost use Rattle.enumerate.specs.Position.{root_of};
+ghost use Rattle.enumerate.specs.SearchState.{root_of};
 ghost use Rattle.enumerate.specs.Work.{is_live_prefix, pairs};
 
 /// For a fit problem, the list that a view asks for exists, whatever its bound.

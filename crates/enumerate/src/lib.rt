@@ -13,7 +13,7 @@ mod seek;
 mod setup;
 mod start;
 mod tilings;
-mod turn;
+mod trying;
 
 pub use problem::{Problem, Sequence, lies_below, needed};
 pub use search::Search;

@@ -1,8 +1,8 @@
-// The queues at a position, and which kinds may come next.
+// The queues at a state, and which kinds may come next.
 ghost use Rattle.std.specs.Prelude.{◌≡◌, IsTrue, map};
 ghost use Rattle.srs.specs.Piece.{all_pieces};
 ghost use Rattle.hold_queue.specs.QueueSet.{queues_in_play};
-ghost use Rattle.enumerate.specs.Position.{line_after, may_play};
+ghost use Rattle.enumerate.specs.SearchState.{line_after, may_play};
 
 use hold_queue::{QueueMemory, QueueSet};
 use srs::Piece;
@@ -18,7 +18,7 @@ pub struct Line {
 
 impl Line {
     /// The line of these queues.
-    #[tactic(auto, unfolding(crate::specs::Position::may_play))]
+    #[tactic(auto, unfolding(crate::specs::SearchState::may_play))]
     pub fn of(queues: QueueSet) -> Line
         ensures { result.queues ≡ queues }
     {

@@ -7,12 +7,12 @@ ghost use Rattle.enumerate.specs.Counted.{CountsUp};
 ghost use Rattle.enumerate.specs.Events.{sought};
 ghost use Rattle.enumerate.specs.Frames.{has_room, places_left, stacked};
 ghost use Rattle.enumerate.specs.declared.frame.Frame.{Frame};
-ghost use Rattle.enumerate.specs.Setups.{position_of};
+ghost use Rattle.enumerate.specs.Setups.{state_of};
 ghost use Rattle.enumerate.specs.Seeks.{IsFresh, IsSought, Skips, SkipsTo};
 
 use crate::frame::Frame;
 use crate::notes::Notes;
-use crate::turn::Turn;
+use crate::trying::Tried;
 use moves::DropMode;
 use reach::{FloodRules, Steps};
 use srs::{Placement, compare};
@@ -47,7 +47,7 @@ impl Frame {
     }
 
     /// Passes everything that comes before a placement. True if the placement can be entered: then the first frame
-    /// behind is the position after it.
+    /// behind is the state after it.
     fn skip<L: Ledger>(
         &mut self,
         target: &Placement,
@@ -92,14 +92,14 @@ impl Frame {
             return false;
         }
         match self.enter(target, &mut notes.queues, behind) {
-            Turn::Entered => true,
+            Tried::Entered => true,
             _ => false,
         }
     }
 }
 
 /// Passes everything that comes before a placement, at the last of the frames in use. True if one more frame is in use
-/// then, which is the position after the placement.
+/// then, which is the state after the placement.
 fn skip_at<L: Ledger>(
     frames: &mut [Frame; 20],
     top: usize,
@@ -136,7 +136,7 @@ pub fn seek<L: Ledger>(
     ensures room { IsTrue (has_room 0 (take result frames.new)) }
     ensures skips { (d : Frame) → SkipsTo
         (sought (suc (slice_index_or frames.old 0 d).setup.left) []
-        (position_of (flood_table rules.now) drop_mode (slice_index_or frames.old 0 d).setup) given.now)
+        (state_of (flood_table rules.now) drop_mode (slice_index_or frames.old 0 d).setup) given.now)
         (stacked (flood_table rules.now) drop_mode [] (take result frames.new)) steps.old steps.new }
     ensures noted { CountsUp notes.old.floods notes.new.floods steps.old steps.new }
 {

@@ -1,4 +1,4 @@
-// A position of the search, with what is known of it, and what may still be played after a piece.
+// States of the search, with what is known of them, and what may still be played after a piece.
 ghost use Rattle.std.specs.Prelude.{◌≡◌, ◌+◌, ◌≤◌, min};
 ghost use Rattle.lane_board.specs.Field.{difference, rows_below};
 ghost use Rattle.srs.specs.declared.piece.Piece.{Piece};
@@ -21,7 +21,7 @@ pub struct NextSupply {
     pub limited: SupplyWord,
 }
 
-/// A position: the well with the rows that are left, and what may still be played there.
+/// A state of the search: the well with the rows that are left, and what may still be played there.
 #[derive(Clone, Copy)]
 pub struct Setup {
     pub well: Well,

@@ -13,12 +13,12 @@ ghost use Rattle.queue_pattern.specs.Queues.{queues};
 ghost use Rattle.queue_pattern.specs.Pattern.{elements_of};
 ghost use Rattle.reach.specs.FloodRules.{flood_table};
 ghost use Rattle.problem.specs.Problem.{IsFit, needed_of};
-ghost use Rattle.enumerate.specs.Position.{is_live, root_of};
+ghost use Rattle.enumerate.specs.SearchState.{is_live, root_of};
 ghost use Rattle.enumerate.specs.Counted.{as_count, CountsUp};
 ghost use Rattle.enumerate.specs.Events.{found, floods};
 ghost use Rattle.enumerate.specs.Frames.{has_room, path_of, stacked};
 ghost use Rattle.enumerate.specs.Items.{items_of};
-ghost use Rattle.enumerate.specs.Setups.{position_of};
+ghost use Rattle.enumerate.specs.Setups.{state_of};
 ghost use Rattle.enumerate.specs.Rest.{events_from, whole_from};
 ghost use Rattle.enumerate.specs.Walks.{Finds};
 ghost use Rattle.enumerate.specs.Seeks.{SkipsTo};
@@ -73,10 +73,10 @@ fn most_of(supply: SupplyWord) -> u8
     i.max(l).max(o).max(z).max(t).max(j).max(s)
 }
 
-/// The frame of the position at which a search begins.
+/// The frame of the state at which a search begins.
 fn first_frame(problem: &Problem, queue: &Option<Queue>) -> Frame
     requires { IsFit problem.now }
-    ensures position { position_of (table_of problem.now.rules) problem.now.drop_mode result.setup
+    ensures state { state_of (table_of problem.now.rules) problem.now.drop_mode result.setup
         ≡ root_of problem.now (items_of queue.now) }
     ensures left { result.setup.left ≡ needed_of problem.now - 1 }
     ensures tried { result.tried ≡ 0 }
@@ -110,11 +110,11 @@ fn first_frame(problem: &Problem, queue: &Option<Queue>) -> Frame
     }
 }
 
-/// Whether a search has a first frame: where some placement is needed, and the position is worth a look.
+/// Whether a search has a first frame: where some placement is needed, and the state is worth a look.
 fn has_frame(problem: &Problem, first: &Frame, tilings: &mut Tilings) -> bool
     requires { IsFit problem.now }
     ensures { (table : Table) (mode : DropMode) → result ≡ (nat_lt 0 (needed_of problem.now)
-        && is_live first.now.setup.left (position_of table mode first.now.setup)) }
+        && is_live first.now.setup.left (state_of table mode first.now.setup)) }
 {
     needed(problem) > 0 && first.setup.is_live(tilings)
 }

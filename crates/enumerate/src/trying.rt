@@ -1,4 +1,4 @@
-// One turn of the search at a frame.
+// One try of the search at a frame.
 ghost use Rattle.std.specs.Prelude.{◌≡◌, ◌+◌, ◌-◌, ◌≤◌, IsTrue, true, false, IfSome, MatchOption, Some, None, List, [], ◌∷◌, drop, filter, length, slice_index_or};
 ghost use Rattle.std.specs.Option.{ForSome};
 ghost use Rattle.srs.specs.declared.piece.Piece.{Piece};
@@ -11,12 +11,12 @@ ghost use Rattle.reach.specs.FloodRules.{flood_table};
 ghost use Rattle.place_sets.specs.LowPlaces.{piece_of};
 ghost use Rattle.hold_queue.specs.QueueSet.{queues_in_play};
 ghost use Rattle.well.specs.LockLaws.{is_below};
-ghost use Rattle.enumerate.specs.Position.{may_play, places_at};
+ghost use Rattle.enumerate.specs.SearchState.{may_play, places_at};
 ghost use Rattle.enumerate.specs.Standing.{may_lock};
 ghost use Rattle.enumerate.specs.Counted.{CountsUp};
 ghost use Rattle.enumerate.specs.Frames.{events_of, places_left};
-ghost use Rattle.enumerate.specs.Setups.{IsSupplyAfter, LeadsOn, position_of};
-ghost use Rattle.enumerate.specs.Turns.{AreDead, AreLiveBut, Enters, EntersAs, GoesOn, Turns};
+ghost use Rattle.enumerate.specs.Setups.{IsSupplyAfter, LeadsOn, state_of};
+ghost use Rattle.enumerate.specs.Tries.{AreDead, AreLiveBut, Enters, EntersAs, GoesOn, Tries};
 ghost use Rattle.enumerate.specs.declared.frame.Frame.{Frame};
 
 use crate::frame::Frame;
@@ -30,14 +30,14 @@ use reach::{FloodRules, Steps};
 use srs::{Piece, Placement};
 use std::sync::ledger::Ledger;
 
-/// What a turn did.
+/// What was tried at a frame, and what it came to.
 #[derive(Clone, Copy)]
-pub enum Turn {
+pub enum Tried {
     /// It passed a dead end.
     Passed,
     /// It flooded a kind.
     Flooded,
-    /// It entered a placement. The first frame behind is the position after it.
+    /// It entered a placement. The first frame behind is the state after it.
     Entered,
     /// It entered a placement that completes a solution.
     Full,
@@ -96,7 +96,7 @@ impl Frame {
     }
 
     /// Makes `child` the frame after a placement that leaves a tiling.
-    #[tactic(auto, using(crate::proofs::TurnLemmas::enters_child, crate::proofs::TurnLemmas::is_child))]
+    #[tactic(auto, using(crate::proofs::TryLemmas::enters_child, crate::proofs::TryLemmas::is_child))]
     fn lead_to(&self, placement: &Placement, memory: &mut QueueMemory, child: &mut Frame)
         requires lockable { IsTrue (may_lock (filled self.now.setup.well) placement.now.piece placement.now) }
         requires below { IsTrue (is_below self.now.setup.rows placement.now) }
@@ -104,7 +104,7 @@ impl Frame {
         requires supplied { IsSupplyAfter self.now.setup placement.now.piece self.now.next_supply }
         requires some { 1 ≤ self.now.setup.left }
         requires live { LeadsOn self.now.setup placement.now }
-        ensures { Enters self.now.setup placement.now child.new Turn.Entered }
+        ensures { Enters self.now.setup placement.now child.new Tried.Entered }
     {
         self.setup
             .lead_to(placement, &self.next_supply, memory, &mut child.setup);
@@ -114,13 +114,13 @@ impl Frame {
         child.entered = None;
     }
 
-    /// Enters a placement. The first frame behind becomes the position after it, if one more is to come.
+    /// Enters a placement. The first frame behind becomes the state after it, if one more is to come.
     pub fn enter(
         &self,
         placement: &Placement,
         memory: &mut QueueMemory,
         behind: &mut [Frame],
-    ) -> Turn
+    ) -> Tried
         requires lockable { IsTrue (may_lock (filled self.now.setup.well) placement.now.piece placement.now) }
         requires below { IsTrue (is_below self.now.setup.rows placement.now) }
         requires permitted { IsTrue (may_play (queues_in_play self.now.setup.line.queues) placement.now.piece) }
@@ -134,7 +134,7 @@ impl Frame {
             return self.setup.complete(placement);
         }
         self.lead_to(placement, memory, &mut behind[0]);
-        Turn::Entered
+        Tried::Entered
     }
 
     /// Takes out the next placement at which there is something to do, and notes it as the one that was entered last.
@@ -173,7 +173,7 @@ impl Frame {
         requires permitted { IsTrue (may_play (queues_in_play self.old.setup.line.queues) piece) }
         requires supplied { IsSupplyAfter self.old.setup piece next_supply }
         ensures places { places_left self.new.places self.new.entered ≡ filter (is_below self.old.setup.rows)
-            (places_at (position_of (flood_table rules.now) drop_mode self.old.setup) piece) }
+            (places_at (state_of (flood_table rules.now) drop_mode self.old.setup) piece) }
         ensures piece { ForSome self.new.places (λ p. piece_of p ≡ piece) }
         ensures same { self.new.setup ≡ self.old.setup }
         ensures tried { self.new.tried ≡ self.old.tried }
@@ -270,15 +270,15 @@ impl Frame {
         drop_mode: DropMode,
         notes: &mut Notes,
         steps: &mut Steps<L>,
-    ) -> Turn
+    ) -> Tried
         requires { places_left self.old.places self.old.entered ≡ [] }
-        ensures turn { (child : Frame) →
-            Turns (flood_table rules.now) drop_mode self.old self.new child result steps.old steps.new }
+        ensures tries { (child : Frame) →
+            Tries (flood_table rules.now) drop_mode self.old self.new child result steps.old steps.new }
         ensures same { self.new.setup ≡ self.old.setup }
         ensures noted { CountsUp notes.old.floods notes.new.floods steps.old steps.new }
     {
         let piece = match self.next_kind() {
-            None => return Turn::Over,
+            None => return Tried::Over,
             Some(piece) => piece,
         };
         self.tried += 1;
@@ -293,20 +293,20 @@ impl Frame {
             steps,
         );
         self.leave_out_dead(piece, &found, &mut notes.tilings);
-        Turn::Flooded
+        Tried::Flooded
     }
 
     /// Enters the next placement that leaves a tiling, or tries the next kind if none is left.
-    pub fn turn<L: Ledger>(
+    pub fn try_next<L: Ledger>(
         &mut self,
         rules: &FloodRules,
         drop_mode: DropMode,
         behind: &mut [Frame],
         notes: &mut Notes,
         steps: &mut Steps<L>,
-    ) -> Turn
+    ) -> Tried
         requires { self.old.setup.left ≤ length behind.old }
-        ensures turn { Turns (flood_table rules.now) drop_mode self.old self.new
+        ensures tries { Tries (flood_table rules.now) drop_mode self.old self.new
             (slice_index_or behind.new 0 self.new) result steps.old steps.new }
         ensures size { length behind.new ≡ length behind.old }
         ensures same { self.new.setup ≡ self.old.setup }

@@ -1,4 +1,4 @@
--- The turns so far found nothing, and each made the events to come fewer.
+-- The tries so far found nothing, and each made the events to come fewer.
 use Rattle.std.proofs.Common.{◌≡◌, ◌+◌, ◌≤◌, IsTrue, [], take, length}
 use Rattle.reach.specs.FloodRules.{flood_table}
 use Rattle.enumerate.specs.Counted.{CountsUp}

@@ -1,11 +1,11 @@
--- The first frame stands for the first position.
+-- The first frame stands for the first state.
 use Rattle.std.proofs.Common.{sym, ap, ◌+◌, ◌∙◌, arith, rules}
 use Rattle.hold_queue.specs.QueueSet.{queues_in_play}
 use Rattle.hold_queue.specs.Supply.{supply_of}
 use Rattle.prune.specs.Tiling.{supply_in}
-use Rattle.enumerate.specs.Setups.{position_of}
+use Rattle.enumerate.specs.Setups.{state_of}
 use Rattle.problem.proofs.CallerLemmas.{filled-low}
-use Rattle.enumerate.proofs.SearchLemmas.{first-position}
+use Rattle.enumerate.proofs.SearchLemmas.{first-state}
 use Rattle.enumerate.proofs.TilingLaws.{supplies-read}
 use Rattle.enumerate.proofs.start.first_frame.Goals as goal
 use Rattle.enumerate.proofs.start.first_frame.Goals.{in-None, in-Some}
@@ -17,6 +17,6 @@ pub invariant_of-setup-clause-supplied : goal.invariant_of-setup-clause-supplied
 invariant_of-setup-clause-supplied c = c.new-supply.ensures ∙ ap supply_in c.supply.ensures ∙ supplies-read (queues_in_play c.match-queue.queues) (c.saturating_sub-left.result + 1)
     ∙ ap (λ set. supply_of (queues_in_play set) (c.saturating_sub-left.result + 1)) (sym c.of-line.ensures)
 
-pub returns-clause-position : goal.returns-clause-position
-unfolding position_of
-returns-clause-position c = search (rules, first-position)
+pub returns-clause-state : goal.returns-clause-state
+unfolding state_of
+returns-clause-state c = search (rules, first-state)

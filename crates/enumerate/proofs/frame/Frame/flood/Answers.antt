@@ -4,8 +4,8 @@ use Rattle.reach.specs.FloodRules.{flood_table}
 use Rattle.srs.proofs.CallerLemmas.{some_same}
 use Rattle.well.specs.Well.{filled}
 use Rattle.place_sets.specs.LowPlaces.{piece_of}
-use Rattle.enumerate.specs.Setups.{position_of}
-use Rattle.enumerate.proofs.TurnLemmas.{flooded-below, flooded-lockable, flooded-places}
+use Rattle.enumerate.specs.Setups.{state_of}
+use Rattle.enumerate.proofs.TryLemmas.{flooded-below, flooded-lockable, flooded-places}
 use Rattle.enumerate.proofs.Counting.{counts-one}
 use Rattle.enumerate.proofs.frame.Frame.flood.Goals as goal
 
@@ -14,7 +14,7 @@ invariant_of-self g c =
     search (rules, some_same, (flooded-lockable (flood_table c.args.rules.now) (filled c.args.self.now.setup.well) c.args.drop_mode c.args.piece c.places_of.result c.places_of.ensures.piece c.args.self.now.setup.rows c.places_of.ensures.held), (flooded-below (flood_table c.args.rules.now) (filled c.args.self.now.setup.well) c.args.drop_mode c.args.piece c.places_of.result c.places_of.ensures.piece c.args.self.now.setup.rows c.places_of.ensures.held))
 
 pub returns-clause-places : goal.returns-clause-places
-unfolding position_of
+unfolding state_of
 returns-clause-places g c = search (rules, flooded-places)
 
 pub returns-clause-piece : goal.returns-clause-piece

@@ -1,6 +1,6 @@
 -- A kind that may not come is passed by.
 use Rattle.std.proofs.Common.{length, refl, sym, ap, ◌∙◌, arith, rules}
-use Rattle.enumerate.proofs.TurnLemmas.{goes-past_kind}
+use Rattle.enumerate.proofs.TryLemmas.{goes-past_kind}
 use Rattle.enumerate.proofs.frame.Frame.next_kind.Goals as goal
 
 pub loop-piece-init : goal.loop-piece-init

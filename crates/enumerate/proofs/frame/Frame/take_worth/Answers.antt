@@ -4,7 +4,7 @@ use Rattle.std.specs.Prelude.{true}
 use Rattle.srs.proofs.CallerLemmas.{some_same}
 use Rattle.well.specs.LockLaws.{is_below}
 use Rattle.enumerate.specs.declared.setup.Setup.{Setup}
-use Rattle.enumerate.proofs.TurnLemmas.{none-left, one-entered, one-passed}
+use Rattle.enumerate.proofs.TryLemmas.{none-left, one-entered, one-passed}
 use Rattle.enumerate.proofs.frame.Frame.take_worth.Goals as goal
 
 pub loop-placement-init : goal.loop-placement-init

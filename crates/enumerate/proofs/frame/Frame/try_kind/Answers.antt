@@ -3,13 +3,13 @@ use Rattle.std.proofs.Common.{◌∷◌, sym, ap, ◌∙◌, rules}
 use Rattle.std.specs.Prelude.{drop}
 use Rattle.srs.specs.Piece.{all_pieces}
 use Rattle.reach.specs.FloodRules.{flood_table}
-use Rattle.enumerate.specs.Setups.{position_of}
-use Rattle.enumerate.proofs.TurnLemmas.{goes-over, goes-flooded}
+use Rattle.enumerate.specs.Setups.{state_of}
+use Rattle.enumerate.proofs.TryLemmas.{goes-over, goes-flooded}
 use Rattle.enumerate.proofs.Counting.{counts-none}
 use Rattle.enumerate.proofs.frame.Frame.try_kind.Goals as goal
 
-pub returns-in-None-clause-turn : goal.returns-in-None-clause-turn
-returns-in-None-clause-turn g c =
+pub returns-in-None-clause-tries : goal.returns-in-None-clause-tries
+returns-in-None-clause-tries g c =
     search (rules, (goes-over (flood_table c.args.rules.now) c.args.drop_mode c.next_kind.new.self c.in-None.ensures.none c.in-None.ensures.next), (c.in-None.ensures.goes (flood_table c.args.rules.now) c.args.drop_mode))
 
 pub flood-requires-clause-permitted : goal.flood-requires-clause-permitted
@@ -18,9 +18,9 @@ flood-requires-clause-permitted g c = c.in-Some.ensures.next.1
 pub leave_out_dead-requires : goal.leave_out_dead-requires
 leave_out_dead-requires g c = c.flood.ensures.piece
 
-pub returns-clause-turn : goal.returns-clause-turn
-unfolding position_of
-returns-clause-turn g c =
+pub returns-clause-tries : goal.returns-clause-tries
+unfolding state_of
+returns-clause-tries g c =
     search (rules, (goes-flooded (flood_table c.args.rules.now) c.args.drop_mode c.next_kind.new.self c.flood.new.self c.flood.ensures.same c.in-Some.piece c.in-Some.ensures.none (c.in-Some.ensures.next.0 ∙ ap (λ k. c.in-Some.piece ∷ drop k all_pieces) (sym c.flood.ensures.tried)) c.in-Some.ensures.next.1 c.flood.ensures.places))
 
 pub returns-clause-same : goal.returns-clause-same

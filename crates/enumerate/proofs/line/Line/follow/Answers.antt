@@ -1,6 +1,6 @@
 -- The line of the queues after the piece.
-use Rattle.enumerate.specs.Position.{may_play}
-use Rattle.enumerate.proofs.TurnLemmas.{line-permits}
+use Rattle.enumerate.specs.SearchState.{may_play}
+use Rattle.enumerate.proofs.TryLemmas.{line-permits}
 use Rattle.enumerate.proofs.line.Line.follow.Goals as goal
 
 pub follow-self-requires : goal.follow-self-requires

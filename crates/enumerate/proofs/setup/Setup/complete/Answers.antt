@@ -2,7 +2,7 @@
 use Rattle.std.proofs.Common.{rules}
 use Rattle.well.specs.Well.{filled}
 use Rattle.enumerate.proofs.PlaceLaws.{lockable_free}
-use Rattle.enumerate.proofs.TurnLemmas.{enters-full, enters-rows_left, not-zero}
+use Rattle.enumerate.proofs.TryLemmas.{enters-full, enters-rows_left, not-zero}
 use Rattle.enumerate.proofs.setup.Setup.complete.Goals as goal
 
 pub lock-removed-requires : goal.lock-removed-requires

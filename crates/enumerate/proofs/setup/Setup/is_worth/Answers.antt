@@ -1,7 +1,7 @@
--- What leaves no tiling leads to a position that is not live.
+-- What leaves no tiling leads to a state that is not live.
 use Rattle.std.proofs.Common.{◌-◌, arith, rules}
 use Rattle.enumerate.proofs.TilingLaws.{live-after}
-use Rattle.enumerate.proofs.TurnLemmas.{enters-dead}
+use Rattle.enumerate.proofs.TryLemmas.{enters-dead}
 use Rattle.enumerate.proofs.setup.Setup.is_worth.Goals as goal
 
 pub returns-then-self-eq0-clause-live : goal.returns-then-self-eq0-clause-live

@@ -10,7 +10,7 @@ use Rattle.prune.specs.OnePart.{less_one}
 use Rattle.empty_cells.specs.SupplyWords
 use Rattle.enumerate.proofs.PlaceLaws.{lockable_free}
 use Rattle.enumerate.proofs.TilingLaws.{locked-below, supply-moves}
-use Rattle.enumerate.proofs.TurnLemmas.{child-position}
+use Rattle.enumerate.proofs.TryLemmas.{child-state}
 use Rattle.enumerate.proofs.setup.Setup.lead_to.Goals as goal
 
 few_left : (supply : Supply) (left most : ℕ) (piece other : Piece) (after : ℕ) → after ≡ min left (less_one supply piece other) → supply other ≤ most → after ≤ most
@@ -40,5 +40,5 @@ pub invariant_of-child-clause-few_of_each : goal.invariant_of-child-clause-few_o
 invariant_of-child-clause-few_of_each c = λ other.
     few_left (SupplyWords.supply_of c.args.self.now.supply) c.args.self.now.left c.args.self.now.most c.args.placement.now.piece other _ (c.requires.supplied.supplied other) (c.args.self.now.few_of_each other)
 
-pub returns-clause-position : goal.returns-clause-position
-returns-clause-position c = search (rules, locked-by, removed-by, child-position)
+pub returns-clause-state : goal.returns-clause-state
+returns-clause-state c = search (rules, locked-by, removed-by, child-state)

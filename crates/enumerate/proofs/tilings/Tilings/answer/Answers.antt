@@ -1,4 +1,4 @@
--- Each turn takes one place out.
+-- Each step takes one place out.
 use Rattle.std.proofs.Common.{refl, sym, subst, rules}
 use Rattle.std.specs.Prelude.{Contains, Some, None}
 use Rattle.srs.specs.Placements.{placements_of}
