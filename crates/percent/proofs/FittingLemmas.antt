@@ -21,8 +21,7 @@ use Rattle.number_sets.proofs.CallerLemmas.{has-none, has-push, has-more, has-al
 use Rattle.problem.proofs.CallerLemmas.{IsLow}
 use Rattle.percent.specs.declared.game.Game.{Game}
 use Rattle.percent.specs.declared.position.Position.{Position}
-use Rattle.percent.specs.declared.fitting.Verdict.{Verdict}
-use Rattle.percent.specs.Fitting.{codes_in, supply_at, supply_by, IsTrueVerdict}
+use Rattle.percent.specs.Fitting.{codes_in, supply_at, supply_by}
 use Rattle.percent.specs.GoodHands.{is_good}
 use Rattle.percent.proofs.TiledLemmas.{codes-few, good-tiled}
 
@@ -48,10 +47,6 @@ unfolding supply_at supply_by
 unfit game p cells counts left hand count one cells_are most none =
     untiled game p left hand count (supply_by counts) (omega (arith, one)) (λ piece. most (piece_code piece) (let few = piece_code-small piece in omega arith))
     (λ tiled. none (subst (λ E. Tiling (all_but E) 8 (supply_by counts)) (sym cells_are) ((tiling_below (filled p.well) p.rows 8 (supply_by counts) p.few).1 tiled)))
-
--- of pieces that may fit nothing is said
-pub new-verdict : (cells : Empties) (verdict : Verdict) → verdict.may_fit ≡ true → IsTrueVerdict cells verdict
-new-verdict cells verdict may = record { holds = λ no _. false≢true (sym no ∙ may) }
 
 -- ---- the hands that are kept
 

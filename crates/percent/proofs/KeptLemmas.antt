@@ -1,10 +1,14 @@
 -- A slot stands for a position, and what is kept is true of it.
-use Rattle.std.proofs.Common.{◌≡◌, ℕ, nat_lt, Bool, true, false, ◌&&◌, ◌||◌, not, List, [], ◌∷◌, ◌++◌, ◌+◌, ◌<◌, ◌≤◌, length, take, get_or, set, Contains, refl, sym, ap, ◌∙◌, inl, inr, arith, rules}
-use Rattle.std.specs.Prelude.{sum_by}
-use Rattle.std.proofs.lemmas.List.Sums.{get_or-le-sum_by, sum_by-set, sum_by-cons, sum_by-append}
+use Rattle.std.proofs.Common.{◌≡◌, ℕ, nat_lt, Bool, true, false, ◌&&◌, ◌||◌, not, List, [], ◌+◌, ◌-◌, ◌<◌, ◌≤◌, All, Contains, None, Some, length, refl, sym, ap, subst, ◌∙◌, inl, inr, arith, rules}
+use Rattle.std.specs.Prelude.{IfSome, slice_get}
+use Rattle.std.proofs.lemmas.List.Sums.{get_or-le-sum_by, sum_by-le, sum_by-set}
 use Rattle.std.proofs.Math.Path.{fun_ext}
-use Rattle.std.proofs.lemmas.List.{take_all, take_more_set, length-set, get_or-set_same}
+use Rattle.std.proofs.lemmas.List.{length-set, get_or-set_same, set_past}
 use Rattle.std.proofs.lemmas.Bool.{cases_Bool, cases_lt, and_from, lt-ltb}
+use Rattle.std.proofs.lemmas.Nat.{and_le_r}
+use Rattle.std.proofs.lemmas.Option.{get_or_from_slice_get, none-some, slice_get_cases, slice_get_within}
+use Rattle.fact_table.specs.Entries.{slot_in, with_entry}
+use Rattle.fact_table.proofs.CallerLemmas.{facts-entry, facts-none}
 use Rattle.lane_board.specs.Field.{intersection, rows_below}
 use Rattle.well.specs.Well.{filled}
 use Rattle.well.proofs.CallerLemmas.{filled-within}
@@ -35,7 +39,7 @@ all_below p = fun_ext (λ x. fun_ext (at x))
 pub bits-filled : (p : Position) (cells : ℕ) → cells_in_bits cells ≡ intersection (filled p.well) (rows_below p.rows) → cells_in_bits cells ≡ filled p.well
 bits-filled p cells is = is ∙ all_below p
 
-pub empty-slot : (game : Game) (slot : Slot) → slot.found.items ≡ [] → slot.missed.items ≡ [] → IsTrueSlot game slot
+empty-slot : (game : Game) (slot : Slot) → slot.found.items ≡ [] → slot.missed.items ≡ [] → IsTrueSlot game slot
 empty-slot game slot found missed = search (rules, rising-none, has-none)
 
 -- a slot with the cells and rows of a position is true of it
@@ -69,37 +73,61 @@ pub recalled-is : (w f m rest unknown good g : Bool) → (f ≡ true → g ≡ t
     → (good || (unknown && g)) ≡ (w && g)
 recalled-is w f m rest unknown good g found missed rest_is unknown_is good_is = search rules
 
+-- ---- the table of slots
+
+-- what a slot without answers says
+abbrev pub IsBlank : Slot → Type 0
+IsBlank slot = (slot.found.items ≡ []) × (slot.missed.items ≡ [])
+
+pub blank-true : (game : Game) (slots : List Slot) → All IsBlank slots → All (IsTrueSlot game) slots
+blank-true game slots blank = facts-none IsBlank (IsTrueSlot game) slots (λ slot none. empty-slot game slot none.0 none.1) blank
+
+-- a slot that is read is true
+pub slot-true : (game : Game) (slots : List Slot) (hash : ℕ) (slot : Slot) → All (IsTrueSlot game) slots → Some slot ≡ slice_get slots (slot_in (length slots) hash) → IsTrueSlot game slot
+slot-true game slots hash slot all is = subst (λ o. IfSome o (IsTrueSlot game)) (sym is) (facts-entry (IsTrueSlot game) slots hash all)
+
+-- a slot that is put is there
+pub slot-among : (slots : List Slot) (hash : ℕ) (slot : Slot) → 0 < length slots → Contains (with_entry slots hash slot) slot
+unfolding slot_in
+slot-among slots hash slot some =
+    let index : ℕ = slot_in (length slots) hash in
+    let low = and_le_r hash (length slots - 1) in
+    let within : index < length slots = omega (arith, low, some) in
+    let long = length-set slots index slot in
+    (index, omega (arith, long, within), get_or-set_same slots index slot slot within)
+
+-- where no slot is read, none is written
+pub none-put : (slots : List Slot) (hash : ℕ) (slot : Slot) → None ≡ slice_get slots (slot_in (length slots) hash) → slots ≡ with_entry slots hash slot
+none-put slots hash slot none = elim (slice_get_cases slots (slot_in (length slots) hash)).1 [
+  | inl there ↦ absurd (none-some there.0 (none ∙ there.2))
+  | inr past ↦ sym (set_past slots (slot_in (length slots) hash) slot past.0)
+]
+
 -- ---- how many answers there are
 
-pub none-counted : (slot : Slot) → slot.found.items ≡ [] → slot.missed.items ≡ [] → answers_of slot ≡ 0
+none-counted : (slot : Slot) → IsBlank slot → answers_of slot ≤ 0
 unfolding answers_of
-none-counted slot found missed = let a = ap length found in let b = ap length missed in omega (arith, a, b)
+none-counted slot none = let a = ap length none.0 in let b = ap length none.1 in omega (arith, a, b)
 
-pub empty-more : (slots : List Slot) (slot : Slot) → answers_in slots ≡ 0 → slot.found.items ≡ [] → slot.missed.items ≡ [] → answers_in (slots ++ slot ∷ []) ≡ 0
+pub blank-counted : (slots : List Slot) → All IsBlank slots → answers_in slots ≡ 0
 unfolding answers_in
-empty-more slots slot none found missed = search (rules, sum_by-append, sum_by-cons, none-counted)
+blank-counted slots blank = let few = sum_by-le answers_of 0 slots (facts-none IsBlank (λ slot. answers_of slot ≤ 0) slots none-counted blank) in omega (arith, few)
 
-pub replaced : (slots : List Slot) (index : ℕ) (slot before : Slot) → index < length slots → before ≡ get_or slots index before
-    → answers_in (set slots index slot) + answers_of before ≡ answers_in slots + answers_of slot
+-- the answers of the slot before go, and those of the new one come
+pub replaced : (slots : List Slot) (hash : ℕ) (slot before : Slot) → Some before ≡ slice_get slots (slot_in (length slots) hash)
+    → answers_in (with_entry slots hash slot) + answers_of before ≡ answers_in slots + answers_of slot
 unfolding answers_in
-replaced slots index slot before within there = search (rules, sum_by-set)
+replaced slots hash slot before is =
+    let index : ℕ = slot_in (length slots) hash in
+    let within = slice_get_within slots index before (sym is) in
+    let there = ap answers_of (get_or_from_slice_get slots index before before (sym is)) in
+    let change = sum_by-set answers_of slots index slot before within in omega (arith, there, change)
 
 -- a slot has no more answers than there are
-pub one-of-all : (slots : List Slot) (index : ℕ) (before : Slot) → index < length slots → before ≡ get_or slots index before → answers_of before ≤ answers_in slots
+pub one-of-all : (slots : List Slot) (hash : ℕ) (before : Slot) → Some before ≡ slice_get slots (slot_in (length slots) hash) → answers_of before ≤ answers_in slots
 unfolding answers_in
-one-of-all slots index before within there = let e = ap answers_of there in let le = get_or-le-sum_by answers_of slots index before within in omega (arith, e)
-
-pub none-in : (slots : List Slot) → slots ≡ [] → answers_in slots ≡ 0
-unfolding answers_in
-none-in slots nil = ap (sum_by answers_of) nil
-
--- where the slots before an index have no answers, an empty slot put there leaves none up to it
-pub emptied-more : (slots : List Slot) (index : ℕ) (slot : Slot) → index < length slots → answers_in (take index slots) ≡ 0 → slot.found.items ≡ [] → slot.missed.items ≡ []
-    → answers_in (take (index + 1) (set slots index slot)) ≡ 0
-emptied-more slots index slot within none found missed = search (rules, take_more_set, empty-more)
-
-pub emptied-all : (slots : List Slot) (index : ℕ) → length slots ≤ index → answers_in (take index slots) ≡ 0 → answers_in slots ≡ 0
-emptied-all slots index all none = ap answers_in (sym (take_all index slots all)) ∙ none
-
-pub set-among : (slots : List Slot) (index : ℕ) (slot : Slot) → index < length slots → Contains (set slots index slot) slot
-set-among slots index slot within = let long = length-set slots index slot in (index, omega (arith, long), get_or-set_same slots index slot slot within)
+one-of-all slots hash before is =
+    let index : ℕ = slot_in (length slots) hash in
+    let within = slice_get_within slots index before (sym is) in
+    let there = ap answers_of (get_or_from_slice_get slots index before before (sym is)) in
+    let few = get_or-le-sum_by answers_of slots index before within in omega (arith, there, few)

@@ -1,11 +1,8 @@
--- How many pieces of each kind a hand has, and what is known of filling empty cells with so many.
-use Rattle.std.specs.Prelude.{◌≡◌, ℕ, zero, suc, ◌+◌, ◌/◌, ◌%◌, ◌==◌, false, if◌then◌else◌, List, slice_index}
+-- How many pieces of each kind a hand has.
+use Rattle.std.specs.Prelude.{ℕ, zero, suc, ◌+◌, ◌/◌, ◌%◌, ◌==◌, if◌then◌else◌, List, slice_index}
 use Rattle.srs.specs.declared.piece.Piece.{Piece}
 use Rattle.srs.specs.Piece.{piece_code}
-use Rattle.prune.specs.Tiling.{Supply, Tiling}
-use Rattle.empty_cells.specs.declared.empties.Empties.{Empties}
-use Rattle.empty_cells.specs.Empties.{all_but, empty_cells}
-use Rattle.percent.specs.declared.fitting.Verdict.{Verdict}
+use Rattle.prune.specs.Tiling.{Supply}
 
 -- how many of the first so many pieces of a hand have a code
 unfoldable pub codes_in : ℕ → ℕ → ℕ → ℕ
@@ -23,7 +20,3 @@ supply_at count hand piece = codes_in count hand (piece_code piece)
 -- the supply whose entries stand at the codes
 unfoldable pub supply_by : List ℕ → Supply
 supply_by counts piece = slice_index counts (piece_code piece)
-
--- where pieces are said not to fit, they don't fill the cells
-pub record IsTrueVerdict (cells : Empties) (verdict : Verdict) : Type 0 where
-  pub holds : verdict.may_fit ≡ false → Tiling (all_but (empty_cells cells)) 8 (supply_by verdict.counts) → ⊥

@@ -222,7 +222,7 @@ fn tried<L: Ledger>(
     let mut asked = marks.asked(alloc, piece, left, all)?;
     let children = marks.children(alloc, &kept.game, &kept.flood, piece, left, &asked, steps)?;
     for child in &children {
-        let fit = fitting_after(alloc, &mut kept.tilings, marks, child, left, &asked)?;
+        let fit = fitting_after(alloc, &mut kept.fits, marks, child, left, &asked)?;
         let good = answered(alloc, kept, marks, child, left, fit.as_slice(), steps)?;
         asked = less(alloc, marks, piece, left, asked, good.as_slice())?;
     }

@@ -1,15 +1,16 @@
 // Leaving out hands whose pieces can't fill the empty cells, before anything is played.
-ghost use Rattle.std.specs.Prelude.{◌≡◌, ◌↔◌, ℕ, ◌≤◌, ◌<◌, ◌&&◌, IsTrue, true, false, IfOk, All, slice_index};
+ghost use Rattle.std.specs.Prelude.{◌≡◌, ◌↔◌, ℕ, ◌≤◌, ◌<◌, ◌&&◌, IsTrue, true, false, IfOk, slice_index};
 ghost use Rattle.empty_cells.specs.Empties.{all_but, empty_cells};
 ghost use Rattle.well.specs.Well.{filled};
 ghost use Rattle.prune.specs.Tiling.{Tiling};
 ghost use Rattle.number_sets.specs.Rising.{IsRising, has};
 ghost use Rattle.percent.specs.declared.game.Game.{Game};
-ghost use Rattle.percent.specs.Fitting.{codes_in, supply_by, IsTrueVerdict};
+ghost use Rattle.percent.specs.Fitting.{codes_in, supply_by};
 ghost use Rattle.percent.specs.GoodHands.{is_good};
 
-use crate::position::Position;
+use crate::position::{Position, hash_of};
 use empty_cells::Empties;
+use fact_table::{Entry, FactTable};
 use packing::TilingStore;
 use pc_outside::NoMemory;
 use prune::cheap_no;
@@ -18,21 +19,46 @@ use std::alloc::Global;
 /// How many pieces there are with each code. No piece has the code 0.
 pub type Counts = [u8; 8];
 
-/// What was found about some pieces: if `may_fit` is false, they can't fill the cells in question.
+/// What was found about some cells and some pieces: if `may_fit` is false, the pieces can't fill the cells.
 #[derive(Clone, Copy)]
-pub struct Verdict {
-    pub counts: Counts,
-    pub may_fit: bool,
+struct Verdict {
+    cells: Empties,
+    counts: Counts,
+    may_fit: bool,
+    ghost holds: { may_fit ≡ false → Tiling (all_but (empty_cells cells)) 8 (supply_by counts) → ⊥ },
 }
 
-/// Some cells, and what was found about pieces that may fill them.
+impl Verdict {
+    /// Whether it is about these cells and pieces with these counts.
+    #[inline(always)]
+    fn is_about(&self, cells: &Empties, counts: &Counts) -> bool
+        ensures cells { IsTrue result → empty_cells self.now.cells ≡ empty_cells cells.now }
+        ensures counts { IsTrue result → self.now.counts ≡ counts.now }
+    {
+        are_same(&self.counts, counts) && self.cells.is_equal(cells)
+    }
+}
+
+impl Entry for Verdict {
+    ghost says_nothing = { λ verdict. verdict.may_fit ≡ true };
+
+    fn nothing(_alloc: Global) -> Verdict {
+        Verdict {
+            cells: Empties::empty(),
+            counts: [0; 8],
+            may_fit: true,
+        }
+    }
+}
+
+/// How many verdicts are remembered. The top eight bits of a product say where.
+const VERDICTS: usize = 256;
+
+/// Remembers which pieces can't fill which cells. A later verdict evicts an earlier one.
 #[derive(Drop)]
-struct Verdicts {
-    cells: Empties,
-    /// A search for a tiling begins at the side nearer to this column.
-    near: u8,
-    known: [Verdict; 64],
-    ghost are_true: { All (IsTrueVerdict cells) known },
+pub struct FitMemory {
+    tilings: TilingStore,
+    verdicts: FactTable<Verdict>,
 }
 
 /// Whether these are the same counts. They are compared as one word.
@@ -88,49 +114,41 @@ fn fills(tilings: &mut TilingStore, cells: &Empties, near: u8, counts: &Counts) 
     tilings.has_tiling_near(cells, near, &[i, l, o, z, t, j, s])
 }
 
-/// The index of what was found about pieces with these counts.
-fn index_of(counts: &Counts) -> usize
-    ensures { result < 64 }
-{
-    let mixed = u64::from_le_bytes(*counts).wrapping_mul(0x9e37_79b9_7f4a_7c15);
-    (mixed >> 32) as usize % 64
-}
-
-impl Verdicts {
-    /// All that is known about these cells is that pieces with these counts may fill them.
-    fn new(cells: Empties, near: u8, counts: Counts) -> Verdicts
-        ensures { result.cells ≡ cells }
-    {
-        let verdict = Verdict {
-            counts,
-            may_fit: true,
-        };
-        Verdicts {
-            cells,
-            near,
-            known: [verdict; 64],
-        }
+impl FitMemory {
+    /// An empty memory. `NoMemory` if there is not enough memory for the tilings.
+    pub fn new(alloc: Global) -> Result<FitMemory, NoMemory> {
+        Ok(FitMemory {
+            tilings: TilingStore::new(alloc)?,
+            verdicts: FactTable::within_memory(alloc, VERDICTS),
+        })
     }
 
-    /// Whether pieces with these counts may fill the cells.
-    fn may_fit(&mut self, tilings: &mut TilingStore, counts: Counts) -> bool
-        ensures cells { self.new.cells ≡ self.old.cells }
-        ensures none { result ≡ false → Tiling (all_but (empty_cells self.old.cells)) 8 (supply_by counts) → ⊥ }
+    /// Whether pieces with these counts may fill the cells, whose hash is given. The search begins at the side nearer to
+    /// a column.
+    #[inline(always)]
+    fn may_fit(&mut self, cells: &Empties, hash: u64, near: u8, counts: &Counts) -> bool
+        ensures { result ≡ false → Tiling (all_but (empty_cells cells.now)) 8 (supply_by counts.now) → ⊥ }
     {
-        let index = index_of(&counts);
-        if !are_same(&self.known[index].counts, &counts) {
-            let may_fit = fills(tilings, &self.cells, self.near, &counts);
-            self.known[index] = Verdict { counts, may_fit };
-            return may_fit;
+        let mixed = (u64::from_le_bytes(*counts) ^ hash).wrapping_mul(0x9e37_79b9_7f4a_7c15);
+        if let Some(verdict) = self.verdicts.entry(mixed >> 56) {
+            if verdict.is_about(cells, counts) {
+                return verdict.may_fit;
+            }
         }
-        self.known[index].may_fit
+        let verdict = Verdict {
+            cells: *cells,
+            counts: *counts,
+            may_fit: fills(&mut self.tilings, cells, near, counts),
+        };
+        self.verdicts.put(mixed >> 56, verdict);
+        verdict.may_fit
     }
 }
 
 /// The hands whose pieces may fill the empty cells at a position. The others are not good there.
 pub fn fitting(
     alloc: Global,
-    tilings: &mut TilingStore,
+    fits: &mut FitMemory,
     position: &Position,
     left: u8,
     hands: &[u64],
@@ -148,14 +166,13 @@ pub fn fitting(
     }
     let cells = Empties::below(&position.well, position.rows);
     let pieces = left + 1;
+    let hash = hash_of(cells.bits(), 0);
     let near = position.near;
-    let greatest = greatest_counts(hands, pieces);
-    if !fills(tilings, &cells, near, &greatest) {
+    if !fits.may_fit(&cells, hash, near, &greatest_counts(hands, pieces)) {
         return Ok(v);
     }
-    let mut verdicts = Verdicts::new(cells, near, greatest);
     for hand in hands {
-        if verdicts.may_fit(tilings, counts_of(*hand, pieces)) {
+        if fits.may_fit(&cells, hash, near, &counts_of(*hand, pieces)) {
             v.push(*hand)?;
         }
     }

@@ -1,13 +1,14 @@
 // Kept answers, each of them true. Entries may be evicted; that costs time, never correctness.
-ghost use Rattle.std.specs.Prelude.{◌≡◌, ◌≤◌, ◌<◌, All, length};
+ghost use Rattle.std.specs.Prelude.{◌≡◌, ◌≤◌, All};
 ghost use Rattle.srs.specs.Rules.{table_of};
 ghost use Rattle.reach.specs.FloodRules.{flood_table};
 ghost use Rattle.percent.specs.Kept.{answers_in, answers_of, IsTrueSlot, Keeps};
 
+use crate::fitting::FitMemory;
 use crate::game::Game;
-use crate::position::Position;
+use crate::position::{Position, hash_of};
+use fact_table::{Entry, FactTable};
 use number_sets::{merged, without};
-use packing::TilingStore;
 use pc_outside::NoMemory;
 use reach::FloodRules;
 use std::alloc::Global;
@@ -25,22 +26,6 @@ pub struct Slot {
 }
 
 impl Slot {
-    ghost use Rattle.std.specs.Prelude.{[]};
-
-    /// A slot without answers.
-    fn empty(alloc: Global) -> Slot
-        ensures found { result.found.items ≡ [] }
-        ensures missed { result.missed.items ≡ [] }
-    {
-        Slot {
-            cells: 0,
-            rows: 0,
-            left: 0,
-            found: Vec::new(alloc),
-            missed: Vec::new(alloc),
-        }
-    }
-
     /// How many answers it has.
     fn len(&self) -> usize
         ensures { result ≡ answers_of self.now }
@@ -49,67 +34,63 @@ impl Slot {
     }
 }
 
+impl Entry for Slot {
+    ghost use Rattle.std.specs.Prelude.{[]};
+
+    ghost says_nothing = { λ slot. (slot.found.items ≡ []) × (slot.missed.items ≡ []) };
+
+    fn nothing(alloc: Global) -> Slot {
+        Slot {
+            cells: 0,
+            rows: 0,
+            left: 0,
+            found: Vec::new(alloc),
+            missed: Vec::new(alloc),
+        }
+    }
+}
+
 /// The most answers that are kept.
 const MOST: usize = 4_194_304;
 
-/// A table of slots. A later entry evicts an earlier one.
+/// A store of answers, and what else a search for good hands remembers. A later entry evicts an earlier one.
 #[derive(Drop)]
 pub struct Kept {
     pub game: Game,
     pub flood: FloodRules,
-    pub tilings: TilingStore,
+    pub fits: FitMemory,
     pub lister: Lister,
-    slots: Vec<Slot>,
+    slots: FactTable<Slot>,
     /// How many answers are kept.
     count: usize,
-    /// The slot that is evicted next when there is no room.
-    next: usize,
     ghost floods: { flood_table flood ≡ table_of game.rules },
-    ghost are_true: { All (IsTrueSlot game) slots.items },
-    ghost counted: { count ≡ answers_in slots.items },
+    ghost are_true: { All (IsTrueSlot game) slots },
+    ghost counted: { count ≡ answers_in slots },
     ghost bounded: { count ≤ 4194304 },
-    ghost some: { 0 < length slots.items },
 }
 
 impl Kept {
-    ghost use Rattle.std.specs.Prelude.{◌↔◌, ℕ, ◌+◌, ◌&&◌, ◌||◌, true, false, Contains, IfOk, IfSome, IsTrue, set};
+    ghost use Rattle.std.specs.Prelude.{◌↔◌, ℕ, ◌+◌, ◌<◌, ◌&&◌, ◌||◌, true, false, Contains, IfOk, IfSome, IsTrue, length};
+    ghost use Rattle.fact_table.specs.Entries.{with_entry};
     ghost use Rattle.number_sets.specs.Rising.{IsRising, has};
     ghost use Rattle.well.specs.CellBits.{cells_in_bits};
     ghost use Rattle.well.specs.Well.{filled};
     ghost use Rattle.percent.specs.GoodHands.{is_good};
 
-    /// A table for this many positions, without answers.
+    /// A store for this many positions, best a power of two, without answers. If there is not enough memory for them,
+    /// it keeps none.
     pub fn new(alloc: Global, game: Game, room: usize) -> Result<Kept, NoMemory>
-        requires { 0 < room }
         ensures { IfOk result (λ kept. kept.game ≡ game) }
     {
-        let mut slots = Vec::with_capacity(alloc, room)?;
-        for _ in 0..room {
-            slots.push(Slot::empty(alloc))?;
-        }
-        let tilings = TilingStore::new(alloc)?;
-        let lister = Lister::new(alloc);
+        let fits = FitMemory::new(alloc)?;
         Ok(Kept {
             game,
             flood: FloodRules::new(&game.rules),
-            tilings,
-            lister,
-            slots,
+            fits,
+            lister: Lister::new(alloc),
+            slots: FactTable::within_memory(alloc, room),
             count: 0,
-            next: 0,
         })
-    }
-
-    /// The index of the slot for these cells.
-    fn index_of(&self, cells: u128, left: u8) -> usize
-        ensures { result < length self.now.slots.items }
-    {
-        let low = (cells % (1 << 64)) as u64;
-        let high = (cells >> 64) as u64;
-        let mixed = (low ^ high.rotate_left(32) ^ u64::from(left)).wrapping_mul(
-            0x9e37_79b9_7f4a_7c15,
-        );
-        (mixed >> 20) as usize % self.slots.len()
     }
 
     /// The hands that are known to be good at a position, and those that are known not to be.
@@ -122,9 +103,10 @@ impl Kept {
             → is_good self.now.game (filled position.now.well) position.now.rows left hand ≡ false }
     {
         let cells = cells_below(&position.well, position.rows);
-        let slot = &self.slots[self.index_of(cells, left)];
-        if slot.cells == cells && slot.rows == position.rows && slot.left == left {
-            return (slot.found.as_slice(), slot.missed.as_slice());
+        if let Some(slot) = self.slots.entry(hash_of(cells, left)) {
+            if slot.cells == cells && slot.rows == position.rows && slot.left == left {
+                return (slot.found.as_slice(), slot.missed.as_slice());
+            }
         }
         (&[], &[])
     }
@@ -155,43 +137,17 @@ impl Kept {
         Ok(Some((good, unknown)))
     }
 
-    /// Puts an entry in the place of an earlier one. There must be room for it.
-    fn replace(&mut self, index: usize, slot: Slot)
-        requires index { index < length self.old.slots.items }
+    /// Puts an entry in the place of an earlier one. There must be room for its answers.
+    fn replace(&mut self, hash: u64, slot: Slot)
         requires holds { IsTrueSlot self.old.game slot }
         requires room { self.old.count + answers_of slot ≤ 4194304 }
         ensures game { self.new.game ≡ self.old.game }
-        ensures slots { self.new.slots.items ≡ set self.old.slots.items index slot }
+        ensures slots { self.new.slots ≡ with_entry self.old.slots hash slot }
     {
-        self.count = self.count - self.slots[index].len() + slot.len();
-        self.slots[index] = slot;
-    }
-
-    /// Evicts slot after slot, from the first one named, until there is room for `count` more answers.
-    fn evict(&mut self, alloc: Global, first: usize, count: usize)
-        requires { count ≤ 4194304 }
-        ensures game { self.new.game ≡ self.old.game }
-        ensures size { length self.new.slots.items ≡ length self.old.slots.items }
-        ensures room { first ≡ 0 → self.new.count + count ≤ 4194304 }
-    {
-        for index in first..self.slots.len() {
-            if self.count <= MOST - count {
-                return;
-            }
-            self.replace(index, Slot::empty(alloc));
-            self.next = index + 1;
+        if let Some(before) = self.slots.entry(hash) {
+            self.count = self.count - before.len() + slot.len();
+            self.slots.put(hash, slot);
         }
-    }
-
-    /// Evicts answers until there is room for `count` more, and goes round the slots as often as that is done.
-    fn make_room(&mut self, alloc: Global, count: usize)
-        requires { count ≤ 4194304 }
-        ensures game { self.new.game ≡ self.old.game }
-        ensures size { length self.new.slots.items ≡ length self.old.slots.items }
-        ensures room { self.new.count + count ≤ 4194304 }
-    {
-        self.evict(alloc, self.next, count);
-        self.evict(alloc, 0, count);
     }
 
     /// An entry for a position: what is known there, and hands that were found to be good or not.
@@ -230,27 +186,29 @@ impl Kept {
         })
     }
 
-    /// Keeps an entry, and says whether it did: not if it alone has more answers than there is room for. Others may be
-    /// evicted for it.
+    /// Keeps an entry, and says whether it did: not if it alone has more answers than there is room for, or if there is
+    /// no room at all. All others may be forgotten for it.
     fn note(&mut self, alloc: Global, slot: Slot) -> bool
         requires { IsTrueSlot self.old.game slot }
         ensures game { self.new.game ≡ self.old.game }
-        ensures bounded { answers_in self.new.slots.items ≤ 4194304 }
-        ensures room { IsTrue result ↔ answers_of slot ≤ 4194304 }
-        ensures kept { IsTrue result → Contains self.new.slots.items slot }
+        ensures bounded { answers_in self.new.slots ≤ 4194304 }
+        ensures room { IsTrue result ↔ (answers_of slot ≤ 4194304) × (0 < length self.old.slots) }
+        ensures kept { IsTrue result → Contains self.new.slots slot }
     {
         let count = slot.len();
-        if count > MOST {
+        if count > MOST || self.slots.is_without_room() {
             return false;
         }
-        self.make_room(alloc, count);
-        let index = self.index_of(slot.cells, slot.left);
-        self.replace(index, slot);
+        if self.count > MOST - count {
+            self.slots.forget(alloc);
+            self.count = 0;
+        }
+        self.replace(hash_of(slot.cells, slot.left), slot);
         true
     }
 
     /// Keeps hands that are good at a position and hands that are not, beside those already known, and says whether it
-    /// did. Others may be evicted for them. If there is no room or no memory for them, they are not kept.
+    /// did. Others may be forgotten for them. If there is no room or no memory for them, they are not kept.
     pub fn keep(
         &mut self,
         alloc: Global,
@@ -266,7 +224,7 @@ impl Kept {
         requires missed_true { (hand : ℕ) → has missed.now hand ≡ true
             → is_good self.old.game (filled position.now.well) position.now.rows left hand ≡ false }
         ensures game { self.new.game ≡ self.old.game }
-        ensures kept { IsTrue result → Keeps self.new.slots.items (filled position.now.well) position.now.rows left
+        ensures kept { IsTrue result → Keeps self.new.slots (filled position.now.well) position.now.rows left
             found.now missed.now }
     {
         if found.len() + missed.len() > MOST {

@@ -16,11 +16,10 @@ ghost use Rattle.percent.specs.GoodHands.{is_good};
 ghost use Rattle.percent.specs.Marks.{AreIndexes, HasMarkAt, IsMarkOf, IsStanding, IsTrueMark};
 ghost use Rattle.percent.specs.Spread.{IsSpread};
 
-use crate::fitting::{Counts, are_same, counts_of, fitting};
+use crate::fitting::{Counts, FitMemory, are_same, counts_of, fitting};
 use crate::position::{Child, Position};
 use crate::spread::rows_among;
 use empty_cells::Empties;
-use packing::TilingStore;
 use pc_outside::NoMemory;
 use srs::{Piece, Placement};
 use std::alloc::Global;
@@ -292,7 +291,7 @@ impl Marks {
 /// Those of the rests asked about that may fit after a placement. The others are not good after it.
 pub fn fitting_after(
     alloc: Global,
-    tilings: &mut TilingStore,
+    fits: &mut FitMemory,
     marks: &Marks,
     child: &Child,
     left: u8,
@@ -312,13 +311,7 @@ pub fn fitting_after(
         && is_good game (filled child.now.position.well) child.now.position.rows left rest)) }
 {
     if marks.is_empty() && left > 0 {
-        return fitting(
-            alloc,
-            tilings,
-            &child.position,
-            left,
-            asked.rests.as_slice(),
-        );
+        return fitting(alloc, fits, &child.position, left, asked.rests.as_slice());
     }
     marks.likely(alloc, child, left, asked)
 }

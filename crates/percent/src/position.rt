@@ -53,3 +53,13 @@ impl Position {
         }
     }
 }
+
+/// A number that differs for most sets of cells and numbers of placements to come.
+pub fn hash_of(cells: u128, left: u8) -> u64 {
+    let low = (cells % (1 << 64)) as u64;
+    let high = (cells >> 64) as u64;
+    let mut mixed = low ^ high.rotate_left(32) ^ u64::from(left);
+    mixed = mixed.wrapping_mul(0x9e37_79b9_7f4a_7c15);
+    mixed = (mixed ^ mixed >> 32).wrapping_mul(0xd6e8_feb8_6659_fd93);
+    mixed >> 32
+}

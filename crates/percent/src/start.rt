@@ -1,5 +1,5 @@
 // Where the search for good hands begins.
-ghost use Rattle.std.specs.Prelude.{◌≡◌, ℕ, ◌≤◌, ◌<◌, ◌&&◌, ◌↔◌, IsTrue, IfOk, length};
+ghost use Rattle.std.specs.Prelude.{◌≡◌, ℕ, ◌≤◌, ◌<◌, ◌^◌, ◌&&◌, ◌↔◌, IsTrue, IfOk, length};
 ghost use Rattle.well.specs.Well.{filled};
 ghost use Rattle.queue_pattern.specs.Pattern.{elements_of};
 ghost use Rattle.queue_pattern.specs.Queues.{queues};
@@ -47,12 +47,17 @@ fn first_position(problem: &Problem) -> Position
     }
 }
 
-/// For how many positions answers are kept, given how many hands are asked about and how many placements are to come.
+/// For how many positions answers are kept, given how many hands are asked about and how many placements are to come:
+/// a power of two.
 fn room_for(hands: usize, left: u8) -> usize
-    ensures { 0 < result }
+    ensures { (exponent : ℕ) × (result ≡ 2 ^ exponent) }
 {
     let for_each = if left > 10 { 64 } else { 4 };
-    hands.saturating_mul(for_each).clamp(8192, 262_144)
+    match hands.saturating_mul(for_each) {
+        0..=8192 => 8192,
+        8193..=65_536 => 65_536,
+        _ => 262_144,
+    }
 }
 
 /// Those of the hands that are good. If the number of empty cells below the height is not a multiple of four, there are
@@ -76,7 +81,7 @@ pub fn good_hands<L: Ledger>(
     let left = needed(problem);
     let mut kept = Kept::new(alloc, game(problem), room_for(hands.len(), left))?;
     let position = first_position(problem);
-    let fit = fitting(alloc, &mut kept.tilings, &position, left, hands.as_slice())?;
+    let fit = fitting(alloc, &mut kept.fits, &position, left, hands.as_slice())?;
     drop(hands);
     answered_first(alloc, &mut kept, &position, left, fit.as_slice(), steps)
 }

@@ -28,36 +28,32 @@ returns-then-cheap_no-clause-members c = λ game.
     many J = omega arith
     many S = omega arith
 
-pub returns-then-not-fills-clause-members : goal.returns-then-not-fills-clause-members
-returns-then-not-fills-clause-members c = λ game.
+pub returns-then-not-may_fit-clause-members : goal.returns-then-not-may_fit-clause-members
+returns-then-not-may_fit-clause-members c = λ game.
     let p = c.args.position.now in
     none-kept c.new-v.result.items c.args.hands.now (is_good game (filled p.well) p.rows c.args.left)
-    (λ hand there. unfit game p c.below-cells.result c.greatest_counts-greatest.result c.args.left hand (c.args.left + 1) refl c.below-cells.ensures
-    (c.greatest_counts-greatest.ensures hand there) (λ tiled. false≢true (sym c.if-not-fills.true ∙ c.fills.ensures.1 tiled)))
+    (λ hand there. unfit game p c.below-cells.result c.greatest_counts.result c.args.left hand (c.args.left + 1) refl c.below-cells.ensures
+    (c.greatest_counts.ensures hand there) (c.may_fit.ensures c.if-not-may_fit.true))
     c.new-v.ensures.items
 
 pub loop-hand-preserved : goal.loop-hand-preserved
 loop-hand-preserved c =
     let p = c.args.position.now in
     elim c.if-may_fit.branch [
-      | then-may_fit+in_ok-push w ↦ (
-        rw (w.v-is, w.in_ok-push.ensures.items)
-            (sift-push (λ game. is_good game (filled p.well) p.rows c.args.left) c.args.hands.now c.loop-hand.v.items c.loop-hand.hand-index c.requires.rises c.loop-hand.invariant.0 c.loop-hand-test.true),
-        ap empty_cells c.may_fit.ensures.cells ∙ c.loop-hand.invariant.1,
-      )
-      | else-may_fit w ↦ (
-        rw w.v-is
-            (sift-pass (λ game. is_good game (filled p.well) p.rows c.args.left) c.args.hands.now c.loop-hand.v.items c.loop-hand.hand-index c.requires.rises c.loop-hand.invariant.0 c.loop-hand-test.true
-            (λ game. unfit game p c.loop-hand.verdicts.cells c.counts_of.result c.args.left (get_or c.args.hands.now c.loop-hand.hand-index 0) (c.args.left + 1) refl c.loop-hand.invariant.1
-            (λ code few. let equal = c.counts_of.ensures code few in omega (arith, equal)) (c.may_fit.ensures.none w.if-may_fit.false))),
-        ap empty_cells c.may_fit.ensures.cells ∙ c.loop-hand.invariant.1,
-      )
+      | then-may_fit+in_ok-push w ↦
+          rw (w.v-is, w.in_ok-push.ensures.items)
+          (sift-push (λ game. is_good game (filled p.well) p.rows c.args.left) c.args.hands.now c.loop-hand.v.items c.loop-hand.hand-index c.requires.rises c.loop-hand.invariant c.loop-hand-test.true)
+      | else-may_fit w ↦
+          rw w.v-is
+          (sift-pass (λ game. is_good game (filled p.well) p.rows c.args.left) c.args.hands.now c.loop-hand.v.items c.loop-hand.hand-index c.requires.rises c.loop-hand.invariant c.loop-hand-test.true
+          (λ game. unfit game p c.below-cells.result c.counts_of.result c.args.left (get_or c.args.hands.now c.loop-hand.hand-index 0) (c.args.left + 1) refl c.below-cells.ensures
+          (λ code few. let equal = c.counts_of.ensures code few in omega (arith, equal)) (c.may_fit-in-loop-hand.ensures w.if-may_fit.false)))
     ]
 
 pub returns-clause-rises : goal.returns-clause-rises
-returns-clause-rises c = c.loop-hand.invariant.0.rises
+returns-clause-rises c = c.loop-hand.invariant.rises
 
 pub returns-clause-members : goal.returns-clause-members
 returns-clause-members c =
     let p = c.args.position.now in
-    sift-ends (λ game. is_good game (filled p.well) p.rows c.args.left) c.args.hands.now c.loop-hand.v.items c.loop-hand.hand-index c.loop-hand-test.false c.loop-hand.invariant.0
+    sift-ends (λ game. is_good game (filled p.well) p.rows c.args.left) c.args.hands.now c.loop-hand.v.items c.loop-hand.hand-index c.loop-hand-test.false c.loop-hand.invariant

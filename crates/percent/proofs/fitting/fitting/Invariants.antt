@@ -1,12 +1,7 @@
-use Rattle.std.proofs.Common.{◌≡◌}
-use Rattle.lane_board.specs.Field.{difference, rows_below}
 use Rattle.well.specs.Well.{filled}
-use Rattle.empty_cells.specs.Empties.{empty_cells}
 use Rattle.percent.specs.GoodHands.{is_good}
 use Rattle.percent.proofs.FittingLemmas.{Sifting}
 use Rattle.percent.proofs.fitting.fitting.Given as goal
 
 abbrev pub invariant-loop-hand : goal.invariant-loop-hand
-invariant-loop-hand l =
-    Sifting (λ game. is_good game (filled l.position.well) l.position.rows l.left) l.hands l.v.items l.hand-index
-    × (empty_cells l.verdicts.cells ≡ difference (rows_below l.position.rows) (filled l.position.well))
+invariant-loop-hand l = Sifting (λ game. is_good game (filled l.position.well) l.position.rows l.left) l.hands l.v.items l.hand-index

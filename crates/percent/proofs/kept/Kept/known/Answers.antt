@@ -7,11 +7,8 @@ use Rattle.well.specs.CellBits.{cells_in_bits}
 use Rattle.percent.specs.declared.kept.Kept.{Kept}
 use Rattle.percent.specs.declared.kept.Slot.{Slot}
 use Rattle.percent.specs.Kept.{IsTrueSlot}
-use Rattle.percent.proofs.KeptLemmas.{bits-filled, slot-found, slot-missed}
+use Rattle.percent.proofs.KeptLemmas.{bits-filled, slot-found, slot-missed, slot-true}
 use Rattle.percent.proofs.kept.Kept.known.Goals as goal
-
-slot_at : (kept : Kept) (index : ℕ) (slot : Slot) → index < length kept.slots.items → slot ≡ get_or kept.slots.items index slot → IsTrueSlot kept.game slot
-slot_at kept index slot below is = subst (IsTrueSlot kept.game) (sym is) (All-get_or (IsTrueSlot kept.game) kept.slots.items index slot below kept.are_true)
 
 pub returns-clause-found_true : goal.returns-clause-found_true
 returns-clause-found_true c = λ hand there. let none = has-none hand in cc
@@ -22,27 +19,27 @@ returns-clause-missed_true c = λ hand there. let none = has-none hand in cc
 pub returns-then-slot-left-clause-found_rises : goal.returns-then-slot-left-clause-found_rises
 returns-then-slot-left-clause-found_rises c =
     let kept = c.args.self.now in
-    let slot : IsTrueSlot kept.game c.index-slot.result.now = slot_at kept c.index_of.result c.index-slot.result.now c.index_of.ensures c.index-slot.ensures in
+    let slot = slot-true kept.game kept.slots c.hash_of.result c.in-Some.slot.now kept.are_true c.in-Some.ensures in
     subst IsRising (sym c.as_slice.ensures.value) slot.found_rises
 
 pub returns-then-slot-left-clause-missed_rises : goal.returns-then-slot-left-clause-missed_rises
 returns-then-slot-left-clause-missed_rises c =
     let kept = c.args.self.now in
-    let slot : IsTrueSlot kept.game c.index-slot.result.now = slot_at kept c.index_of.result c.index-slot.result.now c.index_of.ensures c.index-slot.ensures in
+    let slot = slot-true kept.game kept.slots c.hash_of.result c.in-Some.slot.now kept.are_true c.in-Some.ensures in
     subst IsRising (sym c.as_slice-then-slot-left.ensures.value) slot.missed_rises
 
 pub returns-then-slot-left-clause-found_true : goal.returns-then-slot-left-clause-found_true
 returns-then-slot-left-clause-found_true c = λ hand there.
     let kept = c.args.self.now in
-    let slot : IsTrueSlot kept.game c.index-slot.result.now = slot_at kept c.index_of.result c.index-slot.result.now c.index_of.ensures c.index-slot.ensures in
-    slot-found kept.game c.index-slot.result.now c.args.position.now c.args.left slot
+    let slot = slot-true kept.game kept.slots c.hash_of.result c.in-Some.slot.now kept.are_true c.in-Some.ensures in
+    slot-found kept.game c.in-Some.slot.now c.args.position.now c.args.left slot
     (ap cells_in_bits c.if-slot-cells.true ∙ bits-filled c.args.position.now c.cells_below-cells.result c.cells_below-cells.ensures) c.if-slot-position.true c.if-slot-left.true hand
     (sym (ap (λ l. has l hand) c.as_slice.ensures.value) ∙ there)
 
 pub returns-then-slot-left-clause-missed_true : goal.returns-then-slot-left-clause-missed_true
 returns-then-slot-left-clause-missed_true c = λ hand there.
     let kept = c.args.self.now in
-    let slot : IsTrueSlot kept.game c.index-slot.result.now = slot_at kept c.index_of.result c.index-slot.result.now c.index_of.ensures c.index-slot.ensures in
-    slot-missed kept.game c.index-slot.result.now c.args.position.now c.args.left slot
+    let slot = slot-true kept.game kept.slots c.hash_of.result c.in-Some.slot.now kept.are_true c.in-Some.ensures in
+    slot-missed kept.game c.in-Some.slot.now c.args.position.now c.args.left slot
     (ap cells_in_bits c.if-slot-cells.true ∙ bits-filled c.args.position.now c.cells_below-cells.result c.cells_below-cells.ensures) c.if-slot-position.true c.if-slot-left.true hand
     (sym (ap (λ l. has l hand) c.as_slice-then-slot-left.ensures.value) ∙ there)

@@ -1,25 +1,29 @@
 -- The answers of the slot go, and those of the entry come.
-use Rattle.std.proofs.Common.{length-set, arith}
-use Rattle.std.proofs.lemmas.List.Elements.{All-set}
-use Rattle.percent.specs.Kept.{IsTrueSlot}
-use Rattle.percent.proofs.KeptLemmas.{one-of-all, replaced}
+use Rattle.std.proofs.Common.{◌≡◌, ◌+◌, length, All, sym, subst, ap, ◌∙◌, arith}
+use Rattle.fact_table.specs.Entries.{with_entry}
+use Rattle.fact_table.proofs.CallerLemmas.{facts-put}
+use Rattle.percent.specs.Kept.{answers_in, answers_of, IsTrueSlot}
+use Rattle.percent.proofs.KeptLemmas.{none-put, one-of-all, replaced}
 use Rattle.percent.proofs.kept.Kept.replace.Goals as goal
 
 pub overflow_sub-self : goal.overflow_sub-self
 overflow_sub-self c =
     let kept = c.args.self.now in
-    let few = one-of-all kept.slots.items c.args.index c.index.result.now c.requires.index c.index.ensures in
+    let few = one-of-all kept.slots c.args.hash c.in-Some.before.now c.in-Some.ensures in
     omega (arith, few, kept.counted, c.len.ensures)
 
 pub invariant_of-self : goal.invariant_of-self
 invariant_of-self c =
     let kept = c.args.self.now in
-    let few = one-of-all kept.slots.items c.args.index c.index.result.now c.requires.index c.index.ensures in
-    let change = replaced kept.slots.items c.args.index c.args.slot c.index.result.now c.requires.index c.index.ensures in
+    let few = one-of-all kept.slots c.args.hash c.in-Some.before.now c.in-Some.ensures in
+    let change = replaced kept.slots c.args.hash c.args.slot c.in-Some.before.now c.in-Some.ensures in
+    let now = ap answers_in c.put.ensures in
     record {
       floods = kept.floods;
-      are_true = All-set (IsTrueSlot kept.game) kept.slots.items c.args.index c.args.slot c.requires.holds kept.are_true;
-      counted = omega (arith, few, change, kept.counted, c.len.ensures, c.len-2.ensures);
-      bounded = omega (arith, kept.bounded, c.requires.room, c.len.ensures, c.len-2.ensures);
-      some = let long = length-set kept.slots.items c.args.index c.args.slot in omega (arith, long, kept.some);
+      are_true = subst (All (IsTrueSlot kept.game)) (sym c.put.ensures) (facts-put (IsTrueSlot kept.game) kept.slots c.args.hash c.args.slot c.requires.holds kept.are_true);
+      counted = omega (arith, few, change, now, kept.counted, c.len.ensures, c.len-in-Some.ensures);
+      bounded = omega (arith, few, kept.counted, kept.bounded, c.requires.room, c.len.ensures, c.len-in-Some.ensures);
     }
+
+pub returns-in_default-clause-slots : goal.returns-in_default-clause-slots
+returns-in_default-clause-slots c = none-put c.args.self.now.slots c.args.hash c.args.slot c.in_default.ensures
