@@ -51,7 +51,7 @@ impl Entry for Verdict {
     }
 }
 
-/// How many verdicts are remembered. The top eight bits of a product say where.
+/// How many verdicts are remembered. The eight bits of a hash say where.
 const VERDICTS: usize = 256;
 
 /// Remembers which pieces can't fill which cells. A later verdict evicts an earlier one.
@@ -123,14 +123,15 @@ impl FitMemory {
         })
     }
 
-    /// Whether pieces with these counts may fill the cells, whose hash is given. The search begins at the side nearer to
-    /// a column.
+    /// Whether pieces with these counts may fill the cells, which have this hash. The search begins at the side nearer
+    /// to a column.
     #[inline(always)]
-    fn may_fit(&mut self, cells: &Empties, hash: u64, near: u8, counts: &Counts) -> bool
+    fn may_fit(&mut self, cells: &Empties, cells_hash: u64, near: u8, counts: &Counts) -> bool
         ensures { result ≡ false → Tiling (all_but (empty_cells cells.now)) 8 (supply_by counts.now) → ⊥ }
     {
-        let mixed = (u64::from_le_bytes(*counts) ^ hash).wrapping_mul(0x9e37_79b9_7f4a_7c15);
-        if let Some(verdict) = self.verdicts.entry(mixed >> 56) {
+        let mixed = (u64::from_le_bytes(*counts) ^ cells_hash).wrapping_mul(0x9e37_79b9_7f4a_7c15);
+        let hash = mixed >> 56;
+        if let Some(verdict) = self.verdicts.entry(hash) {
             if verdict.is_about(cells, counts) {
                 return verdict.may_fit;
             }
@@ -140,7 +141,7 @@ impl FitMemory {
             counts: *counts,
             may_fit: fills(&mut self.tilings, cells, near, counts),
         };
-        self.verdicts.put(mixed >> 56, verdict);
+        self.verdicts.put(hash, verdict);
         verdict.may_fit
     }
 }
@@ -166,7 +167,7 @@ pub fn fitting(
     }
     let cells = Empties::below(&position.well, position.rows);
     let pieces = left + 1;
-    let hash = hash_of(cells.bits(), 0);
+    let hash = hash_of(cells.bits(), left);
     let near = position.near;
     if !fits.may_fit(&cells, hash, near, &greatest_counts(hands, pieces)) {
         return Ok(v);

@@ -1,5 +1,5 @@
 // Kept answers, each of them true. Entries may be evicted; that costs time, never correctness.
-ghost use Rattle.std.specs.Prelude.{◌≡◌, ◌≤◌, All};
+ghost use Rattle.std.specs.Prelude.{◌≡◌, ◌≤◌, ◌<◌, All, length};
 ghost use Rattle.srs.specs.Rules.{table_of};
 ghost use Rattle.reach.specs.FloodRules.{flood_table};
 ghost use Rattle.percent.specs.Kept.{answers_in, answers_of, IsTrueSlot, Keeps};
@@ -53,7 +53,8 @@ impl Entry for Slot {
 /// The most answers that are kept.
 const MOST: usize = 4_194_304;
 
-/// A store of answers, and what else a search for good hands remembers. A later entry evicts an earlier one.
+/// A store of answers, and what else a search for good hands remembers. A later entry evicts an earlier one. All are
+/// forgotten before there are too many answers.
 #[derive(Drop)]
 pub struct Kept {
     pub game: Game,
@@ -70,7 +71,7 @@ pub struct Kept {
 }
 
 impl Kept {
-    ghost use Rattle.std.specs.Prelude.{◌↔◌, ℕ, ◌+◌, ◌<◌, ◌&&◌, ◌||◌, true, false, Contains, IfOk, IfSome, IsTrue, length};
+    ghost use Rattle.std.specs.Prelude.{◌↔◌, ℕ, ◌+◌, ◌&&◌, ◌||◌, true, false, Contains, IfOk, IfSome, IsTrue};
     ghost use Rattle.fact_table.specs.Entries.{with_entry};
     ghost use Rattle.number_sets.specs.Rising.{IsRising, has};
     ghost use Rattle.well.specs.CellBits.{cells_in_bits};
@@ -82,11 +83,10 @@ impl Kept {
     pub fn new(alloc: Global, game: Game, room: usize) -> Result<Kept, NoMemory>
         ensures { IfOk result (λ kept. kept.game ≡ game) }
     {
-        let fits = FitMemory::new(alloc)?;
         Ok(Kept {
             game,
             flood: FloodRules::new(&game.rules),
-            fits,
+            fits: FitMemory::new(alloc)?,
             lister: Lister::new(alloc),
             slots: FactTable::within_memory(alloc, room),
             count: 0,

@@ -1,11 +1,9 @@
 -- A hand is left out where its pieces fill nothing.
-use Rattle.std.proofs.Common.{◌≤◌, ◌+◌, ◌∙◌, [], ◌∷◌, get_or, refl, sym, ap, arith}
-use Rattle.std.proofs.lemmas.Bool.{false≢true}
+use Rattle.std.proofs.Common.{◌≤◌, ◌+◌, [], ◌∷◌, get_or, refl, arith}
 use Rattle.srs.specs.declared.piece.Piece.{Piece}
 use Rattle.srs.specs.declared.piece.Piece.TheVariants.{I, L, O, Z, T, J, S}
 use Rattle.well.specs.Well.{filled}
 use Rattle.prune.specs.Tiling.{supply_in}
-use Rattle.empty_cells.specs.Empties.{empty_cells}
 use Rattle.percent.specs.GoodHands.{is_good}
 use Rattle.percent.proofs.FittingLemmas.{none-kept, refused, sift-ends, sift-pass, sift-push, unfit}
 use Rattle.percent.proofs.fitting.fitting.Goals as goal

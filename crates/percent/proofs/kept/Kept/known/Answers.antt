@@ -1,12 +1,8 @@
 -- Nothing is known of a position whose slot is another's.
-use Rattle.std.proofs.Common.{◌≡◌, ℕ, ◌<◌, length, get_or, ap, subst, ◌∙◌, sym}
-use Rattle.std.proofs.lemmas.List.Elements.{All-get_or}
+use Rattle.std.proofs.Common.{ap, subst, ◌∙◌, sym}
 use Rattle.number_sets.specs.Rising.{IsRising, has}
 use Rattle.number_sets.proofs.CallerLemmas.{has-none}
 use Rattle.well.specs.CellBits.{cells_in_bits}
-use Rattle.percent.specs.declared.kept.Kept.{Kept}
-use Rattle.percent.specs.declared.kept.Slot.{Slot}
-use Rattle.percent.specs.Kept.{IsTrueSlot}
 use Rattle.percent.proofs.KeptLemmas.{bits-filled, slot-found, slot-missed, slot-true}
 use Rattle.percent.proofs.kept.Kept.known.Goals as goal
 

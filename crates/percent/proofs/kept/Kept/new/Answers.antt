@@ -6,7 +6,7 @@ use Rattle.percent.proofs.kept.Kept.new.Goals as goal
 pub invariant_of-result : goal.invariant_of-result
 invariant_of-result c =
     let slots = c.within_memory.result in record {
-      floods = c.new-2.ensures;
+      floods = c.new.ensures;
       are_true = blank-true c.args.game slots c.within_memory.ensures.nothing;
       counted = sym (blank-counted slots c.within_memory.ensures.nothing);
       bounded = omega arith;

@@ -1,8 +1,7 @@
 -- The answers of the slot go, and those of the entry come.
-use Rattle.std.proofs.Common.{◌≡◌, ◌+◌, length, All, sym, subst, ap, ◌∙◌, arith}
-use Rattle.fact_table.specs.Entries.{with_entry}
+use Rattle.std.proofs.Common.{All, sym, subst, ap, arith}
 use Rattle.fact_table.proofs.CallerLemmas.{facts-put}
-use Rattle.percent.specs.Kept.{answers_in, answers_of, IsTrueSlot}
+use Rattle.percent.specs.Kept.{answers_in, IsTrueSlot}
 use Rattle.percent.proofs.KeptLemmas.{none-put, one-of-all, replaced}
 use Rattle.percent.proofs.kept.Kept.replace.Goals as goal
 
