@@ -20,7 +20,7 @@ use moves::DropMode;
 use pc_faults::Status;
 use pc_outside::{Failed, Sink};
 use pc_settings::ComboSettings;
-use pc_source::field;
+use pc_source::{Dash, field};
 use reach::Steps;
 use report::{WrittenKeys, write_run};
 use srs::{Placement, Rules};
@@ -60,7 +60,7 @@ pub fn run_combo<O: Sink, L: Ledger>(
         (sink_change O.counts_failures_alone (O.written out.old) (O.written out.new)
         (O.faults out.old) (O.faults out.new)) (out.new ≡ out.old) steps.old steps.new result }
 {
-    match field(alloc, settings.field, settings.page, bytes) {
+    match field(alloc, settings.field, settings.page, Dash::Source(bytes)) {
         Ok(well) => write_longest(alloc, &well, settings, out, steps),
         Err(refused) => Status::from(refused),
     }

@@ -23,7 +23,7 @@ use pc_faults::{CoverFault, Fault, Status};
 use pc_outside::{Failed, Refused, Sink};
 use pc_problem::problem_of;
 use pc_settings::FieldSettings;
-use pc_source::field;
+use pc_source::{Dash, field};
 use problem::Problem;
 use queue_lines::write_numbers;
 use reach::Steps;
@@ -58,7 +58,7 @@ pub fn run_cover<O: Sink, L: Ledger>(
         (sink_change O.counts_failures_alone (O.written out.old) (O.written out.new)
         (O.faults out.old) (O.faults out.new)) (out.new ≡ out.old) steps.old steps.new result }
 {
-    match field(alloc, settings.field, settings.page, b"-") {
+    match field(alloc, settings.field, settings.page, Dash::Itself) {
         Ok(well) => cover_all(alloc, well, settings, bytes, out, steps),
         Err(refused) => Status::from(refused),
     }

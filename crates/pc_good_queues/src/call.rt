@@ -11,7 +11,7 @@ use crate::answer::{NoBits, QueueCounts};
 use crate::bits::{bytes_for, write_bits};
 use pc_problem::problem_of;
 use pc_settings::PercentSettings;
-use pc_source::field;
+use pc_source::{Dash, field};
 use percent::Answers;
 use reach::Steps;
 use std::alloc::Global;
@@ -39,7 +39,7 @@ pub fn write_good_queues<L: Ledger>(
     ensures kept { OnErr result (bits.new ≡ bits.old) }
     ensures counted { steps.old ≤ steps.new }
 {
-    let well = field(alloc, settings.common.field, settings.common.page, bytes)?;
+    let well = field(alloc, settings.common.field, settings.common.page, Dash::Source(bytes))?;
     let problem = problem_of(well, &settings.common)?;
     let queues = problem.pattern.count();
     if bits.len() < bytes_for(queues) {

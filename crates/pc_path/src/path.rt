@@ -22,7 +22,7 @@ use line_writing::WriteFault;
 use pc_faults::Status;
 use pc_outside::Sink;
 use pc_settings::{Format, PathSettings};
-use pc_source::field;
+use pc_source::{Dash, field};
 use problem::Problem;
 use reach::Steps;
 use report::{Tail, write_floods, write_tail};
@@ -112,7 +112,7 @@ pub fn run_path<O: Sink, L: Ledger>(
         (sink_change O.counts_failures_alone (O.written out.old) (O.written out.new)
         (O.faults out.old) (O.faults out.new)) (out.new ≡ out.old) steps.old steps.new result }
 {
-    match field(alloc, settings.common.field, settings.common.page, bytes) {
+    match field(alloc, settings.common.field, settings.common.page, Dash::Source(bytes)) {
         Ok(well) => list_clears(alloc, well, settings, out, steps),
         Err(refused) => Status::from(refused),
     }

@@ -20,7 +20,7 @@ use pc_faults::Status;
 use pc_outside::{Failed, Sink};
 use pc_problem::problem_of;
 use pc_settings::PercentSettings;
-use pc_source::field;
+use pc_source::{Dash, field};
 use percent::Answers;
 use problem::Problem;
 use queue_lines::write_numbers;
@@ -83,7 +83,7 @@ pub fn run_percent<O: Sink, L: Ledger>(
         (sink_change O.counts_failures_alone (O.written out.old) (O.written out.new)
         (O.faults out.old) (O.faults out.new)) (out.new ≡ out.old) steps.old steps.new result }
 {
-    match field(alloc, settings.common.field, settings.common.page, bytes) {
+    match field(alloc, settings.common.field, settings.common.page, Dash::Source(bytes)) {
         Ok(well) => answer_all(alloc, well, settings, out, steps),
         Err(refused) => Status::from(refused),
     }

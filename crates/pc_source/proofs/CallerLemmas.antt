@@ -18,7 +18,7 @@ use Rattle.pc_faults.specs.Codes.{refused_status, written_status}
 use Rattle.pc_settings.specs.Request.{FieldText, fumen_text, rows_text}
 use Rattle.pc_source.specs.Answers.{IsAnswered}
 use Rattle.pc_source.specs.Faults.{cells_asked, cells_read, field_fault, text_fault}
-use Rattle.pc_source.specs.FieldText.{IsFieldOf, IsFumenField, field_needs, is_of_source, text_given}
+use Rattle.pc_source.specs.FieldText.{IsFieldOf, IsFumenField, field_needs, is_dash, text_given}
 use Rattle.pc_source.specs.Had.{HasText, IsRefusedInput}
 use Rattle.pc_source.specs.Sink.{SinkChange}
 use Rattle.pc_source.specs.Task.{Needs, Task, first_fault, is_source, memory, most_bytes, nothing, source_bytes, source_fault}
@@ -119,8 +119,8 @@ not_too_long task bytes within = second_left (source_fault task.needs bytes) (ta
 
 -- the text of a word that isn't the source's
 own_text : (word one other : List ℕ) → is_source (field_needs (fumen_text word)) ≡ false → text_given word one ≡ text_given word other
-own_text word one other = by (is_of_source word) refl where
-  by : (b : Bool) → is_of_source word ≡ b → is_source (field_needs (fumen_text word)) ≡ false → text_given word one ≡ text_given word other
+own_text word one other = by (is_dash word) refl where
+  by : (b : Bool) → is_dash word ≡ b → is_source (field_needs (fumen_text word)) ≡ false → text_given word one ≡ text_given word other
   by true is own = let h : is_source (field_needs (fumen_text word)) ≡ true = rw (is) refl in cc
   by false is own = rw (is) refl
 

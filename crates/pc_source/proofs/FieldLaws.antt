@@ -1,8 +1,9 @@
 -- The field that is asked about: there is one, and its faults are those of its text.
-use Rattle.std.proofs.Common.{◌≡◌, ◌≢◌, false, ℕ, ◌-◌, ◌≤◌, List, Some, None, Result, Ok, Err, ap, sym, subst, ◌∙◌, rules}
+use Rattle.std.proofs.Common.{◌≡◌, ◌≢◌, Bool, true, false, ℕ, ◌-◌, ◌≤◌, List, Some, None, Result, Ok, Err, refl, ap, sym, subst, ◌∙◌, rules}
 use Rattle.std.specs.Prelude.{slice_get}
 use Rattle.std.proofs.lemmas.Bool.{lt-ltb}
 use Rattle.std.proofs.lemmas.Option.{same_Some, slice_get_cases}
+use Rattle.std.proofs.lemmas.Slice.Eq.{bytes_eq-Decides}
 use Rattle.lane_board.specs.Field.{Field}
 use Rattle.fumen_digits.specs.declared.dialect.Dialect.{Dialect}
 use Rattle.fumen_digits.specs.Framing.{digits_in}
@@ -13,7 +14,7 @@ use Rattle.fumen_text.proofs.CallerLemmas.{read_from_text, text_from_read, one_l
 use Rattle.pc_faults.proofs.CallerLemmas.{none_first, none_last}
 use Rattle.pc_settings.specs.Request.{FieldText, rows_text, fumen_text}
 use Rattle.pc_source.specs.Faults.{asked_fault, cells_asked, cells_read, cells_shown, field_fault, page_fault, pages_fault, text_fault}
-use Rattle.pc_source.specs.FieldText.{field_needs, page_cells, text_given, text_needs, IsPageField, IsFumenField, IsFieldOf}
+use Rattle.pc_source.specs.FieldText.{dash, field_needs, is_dash, page_cells, text_given, text_needs, IsPageField, IsFumenField, IsFieldOf}
 use Rattle.pc_source.specs.Task.{is_source, nothing}
 
 one_page_field : (pages : List Page) (number : ℕ) (F G : Field) → IsPageField pages number F → IsPageField pages number G → F ≡ G
@@ -53,6 +54,13 @@ field_there field number bytes first none = search (rules, rows_text, fumen_text
 -- a fumen text that stands among the words needs no source
 pub text_not_source : (text : List ℕ) → is_source (text_needs text) ≡ false
 text_not_source text = search rules
+
+-- where `-` stands for itself, each word gives itself
+pub itself_given : (word : List ℕ) → text_given word dash ≡ word
+itself_given word = by (is_dash word) refl where
+  by : (b : Bool) → is_dash word ≡ b → text_given word dash ≡ word
+  by true is = rw (is) (sym ((bytes_eq-Decides word dash).0 is))
+  by false is = rw (is) refl
 
 -- a fumen text with a prefix needs memory
 pub prefix_needs : (word bytes : List ℕ) → digits_in (text_given word bytes) ≢ None → field_needs (fumen_text word) ≢ nothing

@@ -13,7 +13,7 @@ use Rattle.pc_settings.specs.Request.{FieldText}
 use Rattle.pc_source.specs.Answers.{IsAnswered}
 use Rattle.pc_source.specs.Ends.{CommandEnds}
 use Rattle.pc_source.specs.Faults.{cells_asked, field_fault}
-use Rattle.pc_source.specs.FieldTask.{SourceOf, asked_needs, field_task, fault_by_field, rest_bytes, text_bytes}
+use Rattle.pc_source.specs.FieldTask.{SourceOf, asked_needs, field_task, fault_by_field, rest_bytes, dash_text}
 use Rattle.pc_source.specs.Had.{HasField, IsRefusedInput}
 use Rattle.pc_source.specs.Sink.{SinkChange}
 use Rattle.pc_source.specs.Task.{Task, nothing}
@@ -28,25 +28,25 @@ module _ (source : SourceOf) (text : FieldText) (page : ℕ) (memory_first : Boo
   whole = field_task source text page memory_first rest
 
   -- or it is refused
-  pub field_first : (f : Fault) → field_fault text page (text_bytes source bytes) ≡ Some f → whole.fault bytes ≡ Some f
+  pub field_first : (f : Fault) → field_fault text page (dash_text source bytes) ≡ Some f → whole.fault bytes ≡ Some f
   unfolding fault_by_field
-  field_first f is = first_stops (field_fault text page (text_bytes source bytes)) _ f is
+  field_first f is = first_stops (field_fault text page (dash_text source bytes)) _ f is
 
   -- the field is had
-  pub had_fault : (F : Field) → HasField text page (text_bytes source bytes) F → whole.fault bytes ≡ (rest F).fault (rest_bytes source bytes)
+  pub had_fault : (F : Field) → HasField text page (dash_text source bytes) F → whole.fault bytes ≡ (rest F).fault (rest_bytes source bytes)
   unfolding fault_by_field
   had_fault F has =
-      second_left (field_fault text page (text_bytes source bytes)) ((rest (cells_asked text page (text_bytes source bytes))).fault (rest_bytes source bytes)) has.none
-      ∙ ap (λ F. (rest F).fault (rest_bytes source bytes)) (field_cells text page (text_bytes source bytes) F has.is)
+      second_left (field_fault text page (dash_text source bytes)) ((rest (cells_asked text page (dash_text source bytes))).fault (rest_bytes source bytes)) has.none
+      ∙ ap (λ F. (rest F).fault (rest_bytes source bytes)) (field_cells text page (dash_text source bytes) F has.is)
 
   module _ (sink : SinkChange) (Kept : Type 0) (before now : ℕ) where
     -- the field is not had
     pub field_refused : (r : Refused Fault) (status : Status) → status ≡ refused_status r → Kept → now ≡ before → (r ≡ refused.NoMemory → asked_needs source text ≢ nothing)
-        → IsRefusedInput (field_fault text page (text_bytes source bytes)) r → CommandEnds whole bytes sink Kept before now status
+        → IsRefusedInput (field_fault text page (dash_text source bytes)) r → CommandEnds whole bytes sink Kept before now status
     field_refused r status same kept idle needed is = ends_refused whole bytes sink Kept before now r status same kept idle needed
-        (refusal_before (field_fault text page (text_bytes source bytes)) (whole.fault bytes) r field_first is)
+        (refusal_before (field_fault text page (dash_text source bytes)) (whole.fault bytes) r field_first is)
 
-    module _ (F : Field) (has : HasField text page (text_bytes source bytes) F) (needs : asked_needs source text ≡ nothing → (rest F).needs ≡ nothing) (first : memory_first ≡ true → (rest F).memory_first ≡ true)
+    module _ (F : Field) (has : HasField text page (dash_text source bytes) F) (needs : asked_needs source text ≡ nothing → (rest F).needs ≡ nothing) (first : memory_first ≡ true → (rest F).memory_first ≡ true)
         (floods : ℕ) where
       same : whole.fault bytes ≡ (rest F).fault (rest_bytes source bytes)
       same = had_fault F has
@@ -85,7 +85,7 @@ module _ (source : SourceOf) (text : FieldText) (page : ℕ) (memory_first : Boo
       ]
 
     -- the field is had, and the rest ended so
-    pub field_had : (F : Field) → HasField text page (text_bytes source bytes) F → (asked_needs source text ≡ nothing → (rest F).needs ≡ nothing) → (memory_first ≡ true → (rest F).memory_first ≡ true)
+    pub field_had : (F : Field) → HasField text page (dash_text source bytes) F → (asked_needs source text ≡ nothing → (rest F).needs ≡ nothing) → (memory_first ≡ true → (rest F).memory_first ≡ true)
         → (status : Status) → CommandEnds (rest F) (rest_bytes source bytes) sink Kept before now status → CommandEnds whole bytes sink Kept before now status
     field_had F has needs first status ends = record {
       answers = had_answers F has needs first (now - before) status ends.answers;
@@ -97,10 +97,10 @@ module _ (source : SourceOf) (text : FieldText) (page : ℕ) (memory_first : Boo
   pub one_of_field : (floods others : ℕ) → ((F : Field) (a b : List ℕ) → (rest F).IsOutput (rest_bytes source bytes) floods a → (rest F).IsOutput (rest_bytes source bytes) others b → a ≡ b)
       → (a b : List ℕ) → whole.IsOutput bytes floods a → whole.IsOutput bytes others b → a ≡ b
   one_of_field floods others one a b first second =
-      let same = one_field text page (text_bytes source bytes) first.field second.field first.asked second.asked in
+      let same = one_field text page (dash_text source bytes) first.field second.field first.asked second.asked in
       one second.field a b (subst (λ F. (rest F).IsOutput (rest_bytes source bytes) floods a) same first.holds) second.holds
 
   -- no fault of the words, and none that the source is too long
   pub inner_of_field : ((F : Field) → IsInner ((rest F).fault (rest_bytes source bytes))) → IsInner (whole.fault bytes)
   unfolding fault_by_field
-  inner_of_field inner = inner_first _ _ (inner_field text page (text_bytes source bytes)) (inner_first _ [] (inner (cells_asked text page (text_bytes source bytes))) tt)
+  inner_of_field inner = inner_first _ _ (inner_field text page (dash_text source bytes)) (inner_first _ [] (inner (cells_asked text page (dash_text source bytes))) tt)

@@ -30,10 +30,10 @@ asked_fault asked (Err fault) = None
 unfoldable pub text_fault : Option ℕ → List ℕ → Option Fault
 text_fault asked text = first_of_these (pages_fault (text_pages text) ∷ asked_fault asked (text_pages text) ∷ [])
 
--- the text of the field, and the page where it is a fumen's
+-- the text of the field, and the page where it is a fumen's, where `-` stands for the text `meant`
 abbrev pub field_fault : FieldText → ℕ → List ℕ → Option Fault
-field_fault (rows_text text) number bytes = option_map (λ fault. faults.Rows fault) (rows_fault text)
-field_fault (fumen_text word) number bytes = text_fault (Some number) (text_given word bytes)
+field_fault (rows_text text) number meant = option_map (λ fault. faults.Rows fault) (rows_fault text)
+field_fault (fumen_text word) number meant = text_fault (Some number) (text_given word meant)
 
 -- the cells of a page, where it is there
 abbrev pub cells_shown : Option Page → Field
@@ -48,5 +48,5 @@ cells_read number (Err fault) = empty_field
 -- The cells of the field, where its text has no fault. The law `fields_are_read_as_they_are_asked` says that they are
 -- those of `IsFieldOf`.
 abbrev pub cells_asked : FieldText → ℕ → List ℕ → Field
-cells_asked (rows_text text) number bytes = written_cells text
-cells_asked (fumen_text word) number bytes = cells_read number (text_pages (text_given word bytes))
+cells_asked (rows_text text) number meant = written_cells text
+cells_asked (fumen_text word) number meant = cells_read number (text_pages (text_given word meant))

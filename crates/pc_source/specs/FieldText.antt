@@ -13,13 +13,16 @@ use Rattle.fumen_text.specs.Texts.{ReadsAs}
 use Rattle.pc_source.specs.Task.{Needs, nothing, memory, source_bytes}
 use Rattle.pc_settings.specs.Request.{FieldText, rows_text, fumen_text}
 
--- the word `-` stands for the source's text
-abbrev pub is_of_source : List ℕ → Bool
-is_of_source word = bytes_eq word (codes "-")
+-- the fumen text `-`, which stands for that of the source, or for itself where the source has something else
+abbrev pub dash : List ℕ
+dash = codes "-"
 
--- the text that a word gives, where the source has these bytes
+abbrev pub is_dash : List ℕ → Bool
+is_dash word = bytes_eq word dash
+
+-- the text that a word gives, where `-` stands for the text `meant`
 abbrev pub text_given : List ℕ → List ℕ → List ℕ
-text_given word bytes = if is_of_source word then bytes else word
+text_given word meant = if is_dash word then meant else word
 
 -- the cells of rows 0 to 22 that aren't empty, of whatever colour; the garbage row is no part of them
 unfoldable pub page_cells : Page → Field
@@ -38,21 +41,22 @@ pub record IsFumenField (text : List ℕ) (number : ℕ) (F : Field) : Type 0 wh
   pub reads : ReadsAs text dialect pages
   pub field : IsPageField pages number F
 
--- the field that is asked about, with the number of the page where it is a fumen's, where the source has these bytes
+-- the field that is asked about, with the number of the page where it is a fumen's, where `-` stands for the text
+-- `meant`
 abbrev pub IsFieldOf : FieldText → ℕ → List ℕ → Field → Type 0
-IsFieldOf (rows_text text) number bytes F = F ≡ written_cells text
-IsFieldOf (fumen_text word) number bytes F = IsFumenField (text_given word bytes) number F
+IsFieldOf (rows_text text) number meant F = F ≡ written_cells text
+IsFieldOf (fumen_text word) number meant F = IsFumenField (text_given word meant) number F
 
 -- what is needed to know the pages of a fumen text: nothing where no prefix stands in it, and else memory
 abbrev pub text_needs : List ℕ → Needs
 text_needs text = option_map_or (λ _. memory) (digits_in text) nothing
 
--- what is needed to know the field: a fumen text is read in memory, also where it is the source's
+-- what is needed to know the field, where `-` stands for the source's text: that too is read in memory
 abbrev pub field_needs : FieldText → Needs
 field_needs (rows_text text) = nothing
-field_needs (fumen_text word) = if is_of_source word then source_bytes else text_needs word
+field_needs (fumen_text word) = if is_dash word then source_bytes else text_needs word
 
--- a prefix stands in the fumen text of the field, where the source has these bytes
+-- a prefix stands in the fumen text of the field, where `-` stands for the text `meant`
 abbrev pub HasPrefix : FieldText → List ℕ → Type 0
-HasPrefix (rows_text text) bytes = ⊥
-HasPrefix (fumen_text word) bytes = digits_in (text_given word bytes) ≢ None
+HasPrefix (rows_text text) meant = ⊥
+HasPrefix (fumen_text word) meant = digits_in (text_given word meant) ≢ None

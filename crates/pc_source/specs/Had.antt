@@ -14,8 +14,10 @@ use Rattle.pc_faults.specs.declared.fault.Fault.TheVariants.{SourceTooLong}
 use Rattle.pc_faults.specs.declared.status.Status.{Status}
 use Rattle.pc_faults.specs.declared.status.Status.TheVariants.{Input, SourceFault, NoMemory}
 use Rattle.pc_settings.specs.Request.{FieldText}
-use Rattle.pc_source.specs.FieldText.{IsFumenField, IsFieldOf}
+use Rattle.pc_source.specs.FieldText.{IsFumenField, IsFieldOf, dash}
 use Rattle.pc_source.specs.Faults.{field_fault, text_fault}
+use Rattle.pc_source.specs.declared.field_text.Dash.{Dash}
+use Rattle.pc_source.specs.declared.field_text.Dash.TheVariants.{Source, Itself}
 
 -- by this fault, or for want of memory
 abbrev pub IsRefusedInput : Option Fault → Refused Fault → Type 0
@@ -44,7 +46,12 @@ pub record HasFumenField (text : List ℕ) (number : ℕ) (F : Field) : Type 0 w
   pub none : text_fault (Some number) text ≡ None
   pub is : IsFumenField text number F
 
--- the field is had: its text has no fault
-pub record HasField (field : FieldText) (number : ℕ) (bytes : List ℕ) (F : Field) : Type 0 where
-  pub none : field_fault field number bytes ≡ None
-  pub is : IsFieldOf field number bytes F
+-- the text that `-` stands for
+abbrev pub dash_view : Dash → List ℕ
+dash_view (Source bytes) = bytes.now
+dash_view Itself = dash
+
+-- the field is had, where `-` stands for the text `meant`: the field's text has no fault
+pub record HasField (field : FieldText) (number : ℕ) (meant : List ℕ) (F : Field) : Type 0 where
+  pub none : field_fault field number meant ≡ None
+  pub is : IsFieldOf field number meant F

@@ -7,7 +7,7 @@ ghost use Rattle.pc_settings.specs.Request.{rows_text};
 ghost use Rattle.pc_settings.specs.Views.{text_view};
 ghost use Rattle.pc_source.specs.Faults.{field_fault, text_fault};
 ghost use Rattle.pc_source.specs.FieldText.{HasPrefix, field_needs, text_given};
-ghost use Rattle.pc_source.specs.Had.{HasField, HasFumenField, IsRefusedInput};
+ghost use Rattle.pc_source.specs.Had.{HasField, HasFumenField, IsRefusedInput, dash_view};
 ghost use Rattle.pc_source.specs.Task.{is_source, nothing};
 
 use crate::page::{field_of, page_at};
@@ -18,28 +18,37 @@ use pc_settings::FieldWords;
 use std::alloc::Global;
 use well::Well;
 
-/// The field that the words give. `bytes` are those of the source. Of a fumen text, the field is the page with this
-/// number, counted from 1. A refusal is the first fault of its text, or that memory ran out.
+/// What a fumen text `-` stands for.
+#[derive(Clone, Copy, Debug, PartialEq, Eq)]
+pub enum Dash<'a> {
+    /// The bytes of the source.
+    Source(&'a [u8]),
+    /// Itself, if the source has something else than the field.
+    Itself,
+}
+
+/// The field that the words give. Of a fumen text, the field is the page with this number, counted from 1. A refusal is
+/// the first fault of its text, or that memory ran out.
 #[tactic(auto, using(crate::proofs::FieldLaws::prefix_needs))]
 pub fn field(
     alloc: Global,
     words: FieldWords<'_>,
     number: u32,
-    bytes: &[u8],
+    dash: Dash<'_>,
 ) -> Result<Well, Refused<Fault>>
     requires { 1 ≤ number }
-    ensures field { IfOk result (λ well. HasField (text_view words.entry) number bytes.now (filled well)) }
+    ensures field { IfOk result (λ well. HasField (text_view words.entry) number (dash_view dash.entry) (filled well)) }
     ensures refused { IfErr result
-        (λ refused. IsRefusedInput (field_fault (text_view words.entry) number bytes.now) refused) }
+        (λ refused. IsRefusedInput (field_fault (text_view words.entry) number (dash_view dash.entry)) refused) }
     ensures memory { result ≡ Err Refused.NoMemory → field_needs (text_view words.entry) ≢ nothing }
-    ensures prefix { result ≡ Err Refused.NoMemory → HasPrefix (text_view words.entry) bytes.now }
+    ensures prefix { result ≡ Err Refused.NoMemory → HasPrefix (text_view words.entry) (dash_view dash.entry) }
 {
     match words {
         FieldWords::Rows(text) => match rows_field(text) {
             Ok(well) => Ok(well),
             Err(fault) => Err(Refused::Fault(fault)),
         },
-        FieldWords::Tetfu(word) => fumen_field(alloc, text_given(word, bytes), number),
+        FieldWords::Tetfu(word) => fumen_field(alloc, text_given(word, dash), number),
     }
 }
 
@@ -67,8 +76,19 @@ fn rows_field(text: &str) -> Result<Well, Fault>
     }
 }
 
-/// The text that a word gives. `bytes` are those of the source.
-fn text_given<'a>(word: &'a str, bytes: &'a [u8]) -> &'a [u8]
+/// The text that a word gives.
+#[tactic(auto, using(crate::proofs::FieldLaws::itself_given))]
+fn text_given<'a>(word: &'a str, dash: Dash<'a>) -> &'a [u8]
+    ensures { result.now ≡ text_given word.entry.now (dash_view dash.entry) }
+{
+    match dash {
+        Dash::Source(bytes) => text_or_source(word, bytes),
+        Dash::Itself => word.as_bytes(),
+    }
+}
+
+/// The text that a word gives, if `-` stands for `bytes`.
+fn text_or_source<'a>(word: &'a str, bytes: &'a [u8]) -> &'a [u8]
     ensures { result.now ≡ text_given word.entry.now bytes.entry.now }
 {
     match word {

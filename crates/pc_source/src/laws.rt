@@ -13,11 +13,11 @@ ghost use Rattle.pc_source.specs.FieldText.{IsFieldOf, text_given};
 
 /// A text of the field without a fault asks for exactly one field: the one whose cells the later faults are about.
 pub fn fields_are_read_as_they_are_asked()
-    ensures there { (field : FieldText) (number : ℕ) (bytes : List ℕ) → 1 ≤ number
-        → field_fault field number bytes ≡ None
-        → IsFieldOf field number bytes (cells_asked field number bytes) }
-    ensures only { (field : FieldText) (number : ℕ) (bytes : List ℕ) (F : Field) → IsFieldOf field number bytes F
-        → cells_asked field number bytes ≡ F }
+    ensures there { (field : FieldText) (number : ℕ) (meant : List ℕ) → 1 ≤ number
+        → field_fault field number meant ≡ None
+        → IsFieldOf field number meant (cells_asked field number meant) }
+    ensures only { (field : FieldText) (number : ℕ) (meant : List ℕ) (F : Field) → IsFieldOf field number meant F
+        → cells_asked field number meant ≡ F }
 {}
 
 /// The first fault of a fumen text, of which a page may be asked for, is the one fault of this text, or else that the
@@ -33,10 +33,10 @@ pub fn text_faults_are_those_of_the_text()
 /// The fault of a fumen text that gives the field, in the source or in a word, is the one fault of this text, or else
 /// that the pages that it reads as don't have the page that is asked for.
 pub fn field_faults_are_those_of_the_text()
-    ensures text { (word : List ℕ) (number : ℕ) (bytes : List ℕ) (fault : FumenFault)
-        → IsTextFault (text_given word bytes) fault
-        → field_fault (fumen_text word) number bytes ≡ Some (Fumen fault) }
-    ensures page { (word : List ℕ) (number : ℕ) (bytes : List ℕ) (dialect : Dialect) (pages : List Page)
-        → ReadsAs (text_given word bytes) dialect pages
-        → field_fault (fumen_text word) number bytes ≡ page_fault (Some number) pages }
+    ensures text { (word : List ℕ) (number : ℕ) (meant : List ℕ) (fault : FumenFault)
+        → IsTextFault (text_given word meant) fault
+        → field_fault (fumen_text word) number meant ≡ Some (Fumen fault) }
+    ensures page { (word : List ℕ) (number : ℕ) (meant : List ℕ) (dialect : Dialect) (pages : List Page)
+        → ReadsAs (text_given word meant) dialect pages
+        → field_fault (fumen_text word) number meant ≡ page_fault (Some number) pages }
 {}

@@ -7,7 +7,7 @@ mod page;
 mod pages;
 mod source;
 
-pub use field_text::{field, is_of_source};
+pub use field_text::{Dash, field, is_of_source};
 pub use page::page_at;
 pub use pages::text_pages;
 pub use source::{MOST_BYTES, source_bytes};

@@ -51,7 +51,7 @@ use Rattle.pc_source.specs.Faults.{cells_asked, field_fault, page_fault, text_fa
 use Rattle.pc_source.specs.FieldText.{IsFieldOf}
 use Rattle.pc_problem.specs.Faults.{full_row_fault, pattern_fault, problem_fault}
 use Rattle.pc_path.specs.Faults.{after_fault, listing_fault, path_fault}
-use Rattle.pc_source.specs.FieldTask.{SourceOf, fault_by_field, field_task, its_field, its_rest, rest_bytes, text_bytes}
+use Rattle.pc_source.specs.FieldTask.{SourceOf, fault_by_field, field_task, its_field, its_rest, rest_bytes, dash_text}
 use Rattle.pc_source.specs.Task.{Task}
 use Rattle.pc_path.specs.Formats.{solution_form, takes_memory_first}
 use Rattle.pc_path.specs.Output.{IsGiven, IsReportOf, stats_form}
@@ -118,9 +118,9 @@ module _ (known : Known) where
       → ((F : Field) → LiesInWell F → (rest F).fault (rest_bytes source bytes) ≡ None → Has ((rest F).IsOutput (rest_bytes source bytes) floods)) → Has ((field_task source text page memory_first rest).IsOutput bytes floods)
   unfolding fault_by_field
   of_field source text page memory_first rest bytes floods first none has =
-      let F = cells_asked text page (text_bytes source bytes) in
-      let parts = both_none (field_fault text page (text_bytes source bytes)) ((rest F).fault (rest_bytes source bytes)) none in
-      let there = asked_field text page (text_bytes source bytes) first parts.0 in
+      let F = cells_asked text page (dash_text source bytes) in
+      let parts = both_none (field_fault text page (dash_text source bytes)) ((rest F).fault (rest_bytes source bytes)) none in
+      let there = asked_field text page (dash_text source bytes) first parts.0 in
       let outputs = has F there.1 parts.1 in
       record { output = outputs.output; is = record { field = F; asked = there.0; holds = outputs.is } }
 
