@@ -1,6 +1,5 @@
 -- No command finds a fault of the words, or that the source is too long.
 use Rattle.std.proofs.Common.{ℕ, List, Option, rules}
-use Rattle.pc_faults.specs.declared.fault.Fault.TheVariants as faults
 use Rattle.pc_faults.specs.Inner.{IsInner}
 use Rattle.pc_faults.proofs.CallerLemmas.{inner_map}
 use Rattle.pc_settings.specs.Request.{FieldText, rows_text, fumen_text}

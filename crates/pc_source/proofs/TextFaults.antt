@@ -1,7 +1,6 @@
 -- The faults of a fumen text with a page that is asked for, by what the text reads as.
 use Rattle.std.proofs.Common.{◌≡◌, ◌∙◌, ℕ, List, Option, Some, Err, ap, rules}
 use Rattle.pc_outside.specs.declared.answers.Refused.{Refused}
-use Rattle.pc_outside.specs.declared.answers.Refused.TheVariants as refused
 use Rattle.fumen_digits.specs.declared.dialect.Dialect.{Dialect}
 use Rattle.fumen_digits.specs.declared.fault.FumenFault.{FumenFault}
 use Rattle.fumen_pages.specs.declared.page.Page.{Page}

@@ -82,17 +82,7 @@ fn text_given<'a>(word: &'a str, dash: Dash<'a>) -> &'a [u8]
     ensures { result.now ≡ text_given word.entry.now (dash_view dash.entry) }
 {
     match dash {
-        Dash::Source(bytes) => text_or_source(word, bytes),
-        Dash::Itself => word.as_bytes(),
-    }
-}
-
-/// The text that a word gives, if `-` stands for `bytes`.
-fn text_or_source<'a>(word: &'a str, bytes: &'a [u8]) -> &'a [u8]
-    ensures { result.now ≡ text_given word.entry.now bytes.entry.now }
-{
-    match word {
-        "-" => bytes,
+        Dash::Source(bytes) if word == "-" => bytes,
         _ => word.as_bytes(),
     }
 }
