@@ -39,7 +39,8 @@ pub fn write_good_queues<L: Ledger>(
     ensures kept { OnErr result (bits.new ≡ bits.old) }
     ensures counted { steps.old ≤ steps.new }
 {
-    let well = field(alloc, settings.common.field, settings.common.page, Dash::Source(bytes))?;
+    let dash = Dash::Source(bytes);
+    let well = field(alloc, settings.common.field, settings.common.page, dash)?;
     let problem = problem_of(well, &settings.common)?;
     let queues = problem.pattern.count();
     if bits.len() < bytes_for(queues) {

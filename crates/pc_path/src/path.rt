@@ -112,7 +112,8 @@ pub fn run_path<O: Sink, L: Ledger>(
         (sink_change O.counts_failures_alone (O.written out.old) (O.written out.new)
         (O.faults out.old) (O.faults out.new)) (out.new ≡ out.old) steps.old steps.new result }
 {
-    match field(alloc, settings.common.field, settings.common.page, Dash::Source(bytes)) {
+    let dash = Dash::Source(bytes);
+    match field(alloc, settings.common.field, settings.common.page, dash) {
         Ok(well) => list_clears(alloc, well, settings, out, steps),
         Err(refused) => Status::from(refused),
     }

@@ -83,7 +83,8 @@ pub fn run_percent<O: Sink, L: Ledger>(
         (sink_change O.counts_failures_alone (O.written out.old) (O.written out.new)
         (O.faults out.old) (O.faults out.new)) (out.new ≡ out.old) steps.old steps.new result }
 {
-    match field(alloc, settings.common.field, settings.common.page, Dash::Source(bytes)) {
+    let dash = Dash::Source(bytes);
+    match field(alloc, settings.common.field, settings.common.page, dash) {
         Ok(well) => answer_all(alloc, well, settings, out, steps),
         Err(refused) => Status::from(refused),
     }

@@ -53,7 +53,8 @@ fn asked(alloc: Global, settings: &PathSettings<'_>, bytes: &[u8]) -> Result<Lis
     ensures refused { IfErr result
         (λ refusal. IsFaultOrMemory (path_fault (path_view settings.now) bytes.now) refusal) }
 {
-    let well = match field(alloc, settings.common.field, settings.common.page, Dash::Source(bytes)) {
+    let dash = Dash::Source(bytes);
+    let well = match field(alloc, settings.common.field, settings.common.page, dash) {
         Ok(well) => well,
         Err(Refused::Fault(fault)) => return Err(Refusal::Input(fault)),
         Err(Refused::NoMemory) => return Err(Refusal::NoMemory),
