@@ -51,7 +51,7 @@ impl Entry for Verdict {
     }
 }
 
-/// How many verdicts are remembered. The eight bits of a hash say where.
+/// How many verdicts are remembered. Eight bits of a hash say where each stands.
 const VERDICTS: usize = 256;
 
 /// Remembers which pieces can't fill which cells. A later verdict evicts an earlier one.
