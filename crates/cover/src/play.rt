@@ -4,7 +4,7 @@ ghost use Rattle.problem.specs.Problem.{IsFit};
 ghost use Rattle.cover.specs.Covered.{PlaysIn};
 
 use problem::{Problem, Sequence, lies_below};
-use reach::{Steps, places};
+use reach::{FloodRules, Steps};
 use std::sync::ledger::Ledger;
 
 /// Whether legal keys lead to each placement of the sequence, in the field before it and below the rows that are left
@@ -15,16 +15,11 @@ pub fn plays<L: Ledger>(problem: &Problem, sequence: &Sequence, steps: &mut Step
     ensures counted { steps.old ≤ steps.new }
     ensures few { steps.new ≤ steps.old + length sequence.now.items }
 {
+    let rules = FloodRules::new(&problem.rules);
     let mut well = problem.well;
     let mut rows = problem.height;
     'placements: for placement in sequence.as_slice() {
-        let places = places(
-            &well,
-            &problem.rules,
-            placement.piece,
-            problem.drop_mode,
-            steps,
-        );
+        let places = rules.places(&well, placement.piece, problem.drop_mode, steps);
         if !places.contains(placement) {
             return false;
         }

@@ -1,5 +1,5 @@
 -- Each placement is looked up in the places of its piece.
-use Rattle.std.proofs.Common.{◌≡◌, ◌+◌, ◌-◌, ◌∙◌, ◌∷◌, sym, ap, drop, get_or, drop-cons, add-one, refl, rules}
+use Rattle.std.proofs.Common.{◌≡◌, ◌+◌, ◌-◌, ◌∙◌, ◌∷◌, sym, ap, drop, get_or, drop-cons, add-one, refl, subst, rules}
 use Rattle.srs.specs.Rules.{table_of}
 use Rattle.srs.specs.declared.placement.Placement.{Placement}
 use Rattle.srs.specs.declared.piece.Piece.TheVariants.{I}
@@ -7,6 +7,7 @@ use Rattle.srs.specs.declared.rotation.Rotation.TheVariants.{Spawn}
 use Rattle.well.specs.Well.{filled}
 use Rattle.problem.proofs.CallerLemmas.{filled-low}
 use Rattle.well.proofs.CallerLemmas.{free_inside}
+use Rattle.moves.specs.Place.{IsPlace}
 use Rattle.moves.proofs.CallerLemmas.{place-free}
 use Rattle.cover.proofs.PlayLemmas.{played-starts, played-goes_on}
 use Rattle.cover.proofs.play.plays.Goals as goal
@@ -30,7 +31,8 @@ placements-preserved g c =
     let i = c.placements.placement-index in
     let q = get_or items i no_placement in
     let split : drop i items ≡ q ∷ drop (i + 1) items = let within = c.placements-test.true in rw (add-one, drop-cons items i no_placement) refl in
-    let place = ((c.places-places.ensures.held q).0 (sym c.contains.ensures ∙ c.if-not-contains.false)).1 in
+    let place = subst (λ table. IsPlace table (filled c.placements.well) problem.drop_mode q) c.new-rules.ensures
+        ((c.places-places.ensures.held q).0 (sym c.contains.ensures ∙ c.if-not-contains.false)).1 in
     played-goes_on (table_of problem.rules) problem.drop_mode (filled problem.well) (filled c.placements.well) problem.height c.placements.rows c.args.sequence.now.items (drop (i + 1) items) (drop i items) q
     c.args.steps.now c.placements.steps c.places-places.new.steps i c.placements.invariant split
     (filled c.lock-removed.result.0) c.saturating_sub-rows.result place (sym c.lies_below.ensures ∙ c.if-not-lies_below.false) c.lock-removed.ensures.field
