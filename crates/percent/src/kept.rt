@@ -51,7 +51,7 @@ impl Entry for Slot {
 }
 
 /// The most answers that are kept.
-const MOST: usize = 4_194_304;
+const MOST: usize = 6_291_456;
 
 /// A store of answers, and what else a search for good hands remembers. A later entry evicts an earlier one. All are
 /// forgotten before there are too many answers.
@@ -67,7 +67,7 @@ pub struct Kept {
     ghost floods: { flood_table flood ≡ table_of game.rules },
     ghost are_true: { All (IsTrueSlot game) slots },
     ghost counted: { count ≡ answers_in slots },
-    ghost bounded: { count ≤ 4194304 },
+    ghost bounded: { count ≤ 6291456 },
 }
 
 impl Kept {
@@ -140,7 +140,7 @@ impl Kept {
     /// Puts an entry in the place of an earlier one. There must be room for its answers.
     fn replace(&mut self, hash: u64, slot: Slot)
         requires holds { IsTrueSlot self.old.game slot }
-        requires room { self.old.count + answers_of slot ≤ 4194304 }
+        requires room { self.old.count + answers_of slot ≤ 6291456 }
         ensures game { self.new.game ≡ self.old.game }
         ensures slots { self.new.slots ≡ with_entry self.old.slots hash slot }
     {
@@ -191,8 +191,8 @@ impl Kept {
     fn note(&mut self, alloc: Global, slot: Slot) -> bool
         requires { IsTrueSlot self.old.game slot }
         ensures game { self.new.game ≡ self.old.game }
-        ensures bounded { answers_in self.new.slots ≤ 4194304 }
-        ensures room { IsTrue result ↔ (answers_of slot ≤ 4194304) × (0 < length self.old.slots) }
+        ensures bounded { answers_in self.new.slots ≤ 6291456 }
+        ensures room { IsTrue result ↔ (answers_of slot ≤ 6291456) × (0 < length self.old.slots) }
         ensures kept { IsTrue result → Contains self.new.slots slot }
     {
         let count = slot.len();

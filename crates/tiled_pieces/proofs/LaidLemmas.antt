@@ -17,7 +17,7 @@ use Rattle.prune.proofs.CallerLemmas.{TakenPart, no_parts, taken_part}
 use Rattle.empty_cells.specs.Empties.{all_but, has_cell}
 use Rattle.empty_cells.specs.Spans.{HasNoCell, IsFirst}
 use Rattle.empty_cells.specs.Stacks.{Stacks, in_stack, is_allowed, without_stack}
-use Rattle.empty_cells.proofs.CallerLemmas.{Chosen, IsSmall, PartOf, StackOf, chosen, empty_is, empty_within, fewer, fills_nothing, form, form_at, form_of_place, form_within, over_first, part_of, rotation_at, stack_of, total}
+use Rattle.empty_cells.proofs.CallerLemmas.{Chosen, IsSmall, PartOf, StackOf, chosen, empty_is, empty_within, fewer, fills_nothing, form, form_at, form_with_index, form_within, over_first, part_of, rotation_at, stack_of, total}
 use Rattle.tiled_pieces.specs.TilingLists.{LaidPiece, laid_part}
 use Rattle.tiled_pieces.specs.Listings.{AreLaid, GoesOn, GoesOnWith, HasFirst, IsAny, IsLaid, StacksForm, TakesFirst}
 use Rattle.tiled_pieces.proofs.ListLaws.{left_by_part, left_is, tiling_with}
@@ -238,7 +238,7 @@ some_takes supply E x y small first path found goes = by_pieces goes.more goes.i
 -- a piece whose spans are stacked is laid first
 pub form_found : (supply : Supply) (E : Field) (x y : ℕ) (piece : Piece) (index : ℕ) (path found : List LaidPiece) → IsSmall 8 E → StacksForm IsAny supply E x y piece index path found → GoesOn IsAny (with_one supply piece) E path found
 unfolding AreLaid difference without_stack
-form_found supply E x y piece index path found small s = by (chosen (is_allowed y) By E x 0 (form piece (rotation_at index)) (subst (λ spans. Stacks (is_allowed y) By E x 0 spans) (sym (form_of_place piece index s.known)) s.stacks))
+form_found supply E x y piece index path found small s = by (chosen (is_allowed y) By E x 0 (form piece (rotation_at index)) (subst (λ spans. Stacks (is_allowed y) By E x 0 spans) (sym (form_with_index piece index s.known)) s.stacks))
   where
     By : Field → Type 0
     By = GoesOnWith IsAny supply E piece path found

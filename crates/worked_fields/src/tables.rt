@@ -10,6 +10,8 @@ fn keeps_the_last_entry_in_a_slot(rt: HostRuntime) {
     assert!(rt; table.entry(6) == Some(&Some('c')));
     assert!(rt; table.entry(7) == Some(&Some('b')));
     assert!(rt; table.entry(5) == Some(&None));
+    table.forget(rt.alloc());
+    assert!(rt; table.entry(7) == Some(&None));
 }
 
 #[test]
