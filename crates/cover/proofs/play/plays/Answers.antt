@@ -32,7 +32,7 @@ placements-preserved g c =
     let q = get_or items i no_placement in
     let split : drop i items ≡ q ∷ drop (i + 1) items = let within = c.placements-test.true in rw (add-one, drop-cons items i no_placement) refl in
     let place = subst (λ table. IsPlace table (filled c.placements.well) problem.drop_mode q) c.new-rules.ensures
-        ((c.places-places.ensures.held q).0 (sym c.contains.ensures ∙ c.if-not-contains.false)).1 in
+    ((c.places-places.ensures.held q).0 (sym c.contains.ensures ∙ c.if-not-contains.false)).1 in
     played-goes_on (table_of problem.rules) problem.drop_mode (filled problem.well) (filled c.placements.well) problem.height c.placements.rows c.args.sequence.now.items (drop (i + 1) items) (drop i items) q
     c.args.steps.now c.placements.steps c.places-places.new.steps i c.placements.invariant split
     (filled c.lock-removed.result.0) c.saturating_sub-rows.result place (sym c.lies_below.ensures ∙ c.if-not-lies_below.false) c.lock-removed.ensures.field
