@@ -23,7 +23,7 @@ pub has-number : (numbers : Numbers) (r : Rotation) (x y : ℕ) → x < 16 → y
 unfolding states_in
 has-number numbers r x y column row has = and_from _ _ (and_from _ _ (lt-ltb x 16 column) (lt-ltb y 24 row)) has
 
--- from which number on the states from a index on are
+-- the least number of the states from a rotation, row and column on
 pub starts_high : (first y x index b a : ℕ) → y < 256 → x ≤ 256 → 24 ≤ y → b < 24 → a < 16 → (rising_number first y x ≤ rising_number index b a) ↔ (384 * (first + 1) ≤ number_of_state index b a)
 starts_high first y x index b a row column high small_b small_a = search (rules, cases_lt)
 
