@@ -5,5 +5,4 @@ pub mod Question
 pub mod Use
 -- What contracts cite beside these: views of values, and readings and tests, each with its law
 pub mod Memo
--- What serves proofs alone
 pub mod Keys

@@ -4,13 +4,14 @@ pub mod Work
 pub mod Counted
 pub mod Items
 pub mod ViewOf
+-- What contracts cite beside these: views of values, and readings and tests, each with its law
+pub mod Events
+pub mod Frames
+pub mod Rest
+pub mod Setups
 -- What serves proofs alone
 pub mod Settled
-pub mod Events
 pub mod Standing
-pub mod Setups
-pub mod Frames
 pub mod Tries
 pub mod Walks
 pub mod Seeks
-pub mod Rest

@@ -4,6 +4,6 @@ pub mod QueueSet
 pub mod Supply
 pub mod AtHand
 pub mod Hand
--- What serves proofs alone
-pub mod Family
+-- What contracts cite beside these: views of values, and readings and tests, each with its law
 pub mod States
+pub mod Family

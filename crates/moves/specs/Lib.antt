@@ -9,10 +9,10 @@ pub mod Sky
 pub mod RestingStates
 pub mod Window
 pub mod SkyLaws
--- What contracts cite beside these: views of values, and readings and tests, each with its law
+-- What contracts cite beside these: the test of a place, with its law, and walks by keys
 pub mod PlaceTest
--- What serves proofs alone: numbers of states, walks by keys, the open as rotations and columns, and floods below a lane
-pub mod States
 pub mod Walk
+-- What serves proofs alone: numbers of states, the open as rotations and columns, and floods below a lane
+pub mod States
 pub mod OpenKeys
 pub mod Lanes

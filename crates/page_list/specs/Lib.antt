@@ -4,7 +4,6 @@ pub mod Divided
 pub mod LineSpelling
 -- What contracts cite beside these: views of values, and readings and tests, each with its law
 pub mod ListReading
--- What serves proofs alone
 pub mod CellsReading
-pub mod FieldsReading
 pub mod LineReading
+pub mod FieldsReading
