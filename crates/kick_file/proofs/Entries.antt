@@ -6,7 +6,7 @@ use Rattle.std.proofs.lemmas.Bool.{and_parts}
 use Rattle.srs.specs.declared.piece.Piece.{Piece}
 use Rattle.srs.specs.declared.rotation.Rotation.{Rotation}
 use Rattle.srs.specs.Cells.{Cell}
-use Rattle.srs.specs.Kick.{Table, table_with, turns_with, is_small_move}
+use Rattle.srs.specs.Kick.{Table, table_with, piece_table_with, is_small_move}
 use Rattle.srs.specs.Piece.{piece_with_letter}
 use Rattle.srs.specs.Rotation.{rotation_letter, rotation_index}
 use Rattle.kick_file.specs.declared.fault.KickFault.TheVariants.{RepeatedEntry}
@@ -43,7 +43,7 @@ by_rotation : (b : Bool) (cells : List Cell) (a c d e f : Cell) → length cells
 by_rotation b cells a c d e f five = search (rules, all_set)
 
 by_piece : (q : Bool) (turns : Rotation → List Cell) (turned rotation : Rotation) (a c d e f : Cell) → length (turns rotation) ≡ 5
-    → (let one : ℕ → Cell → (Rotation → List Cell) → (Rotation → List Cell) = λ i cell ts. cond q (turns_with ts turned i cell) ts in one 5 f (one 4 e (one 3 d (one 2 c (one 1 a turns)))) rotation)
+    → (let one : ℕ → Cell → (Rotation → List Cell) → (Rotation → List Cell) = λ i cell ts. cond q (piece_table_with ts turned i cell) ts in one 5 f (one 4 e (one 3 d (one 2 c (one 1 a turns)))) rotation)
     ≡ cond (q && rotation_index rotation == rotation_index turned) (a ∷ c ∷ d ∷ e ∷ f ∷ []) (turns rotation)
 by_piece true turns turned rotation a c d e f five = by_rotation (rotation_index rotation == rotation_index turned) (turns rotation) a c d e f five
 by_piece false turns turned rotation a c d e f five = refl

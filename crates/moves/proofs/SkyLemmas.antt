@@ -8,7 +8,7 @@ use Rattle.std.proofs.lemmas.List.Sums.{fold-append}
 use Rattle.lane_board.specs.Field.{Field}
 use Rattle.srs.specs.declared.piece.Piece.{Piece}
 use Rattle.srs.specs.declared.rotation.Rotation.{Rotation}
-use Rattle.srs.specs.declared.rotation.Rotation.TheVariants as Turn
+use Rattle.srs.specs.declared.rotation.Rotation.TheVariants as Rotations
 use Rattle.srs.specs.declared.placement.Placement.{Placement}
 use Rattle.srs.specs.Cells.{Cell, minus, moved, shape, cells_of, pivot_of}
 use Rattle.srs.specs.SameCells.{is_among}
@@ -29,14 +29,14 @@ use Rattle.moves.proofs.TableFacts.{is_level, shape_level, paths_lead}
 use Rattle.moves.proofs.OpenLemmas.{IsOpenHeight, open_height, open_free, free_fits, open_leads}
 
 -- the path leads where the piece fits
-path_is : (piece : Piece) (rotation : Rotation) (x : ℕ) → x < 10 → fits_column piece rotation (pos x) ≡ true → open_led piece (Some (Turn.Spawn, 4)) (path piece rotation x) ≡ Some (rotation, x)
+path_is : (piece : Piece) (rotation : Rotation) (x : ℕ) → x < 10 → fits_column piece rotation (pos x) ≡ true → open_led piece (Some (Rotations.Spawn, 4)) (path piece rotation x) ≡ Some (rotation, x)
 path_is piece rotation x within fits = search (rules, (paths_lead piece rotation x within), false≢true, and_parts, rotation_index-injective, eqb-true)
 
-pub rise_spawn : (piece : Piece) → rise piece Turn.Spawn ≡ pos 0
-rise_spawn piece = (signed_Decides (rise piece Turn.Spawn) (pos 0)).0 (each_piece (λ p. int_eq (rise p Turn.Spawn) (pos 0)) refl piece)
+pub rise_spawn : (piece : Piece) → rise piece Rotations.Spawn ≡ pos 0
+rise_spawn piece = (signed_Decides (rise piece Rotations.Spawn) (pos 0)).0 (each_piece (λ p. int_eq (rise p Rotations.Spawn) (pos 0)) refl piece)
 
-pub spawn_fits : (piece : Piece) → fits_column piece Turn.Spawn (pos 4) ≡ true
-spawn_fits = each_piece (λ p. fits_column p Turn.Spawn (pos 4)) refl
+pub spawn_fits : (piece : Piece) → fits_column piece Rotations.Spawn (pos 4) ≡ true
+spawn_fits = each_piece (λ p. fits_column p Rotations.Spawn (pos 4)) refl
 
 -- at the spawn's height each rotation and column that fits is reached with keys
 pub record IsHigh (F : Field) (piece : Piece) (rotation : Rotation) (x : ℕ) : Type 0 where
@@ -48,9 +48,9 @@ pub high : (F : Field) (r : ℕ) → IsClearFrom r F → r ≤ 18 → (piece : P
 unfolding spawned state_after
 high F r clear low piece rotation x within fits =
     let room : IsOpenHeight piece r 20 = open_height piece r 20 (omega arith) (omega arith) in
-    let start : pos 20 +ℤ rise piece Turn.Spawn ≡ pos 20 = ap (λ (z : ℤ). pos 20 +ℤ z) (rise_spawn piece) in
-    let spawn_free : is_free F (spawn_of piece) ≡ true = open_free F r clear 20 piece room Turn.Spawn (pos 4, pos 20) start (spawn_fits piece) in
-    let goes = open_leads F r clear 20 piece room (path piece rotation x) Turn.Spawn 4 20 (rotation, x) start (path_is piece rotation x within fits) in
+    let start : pos 20 +ℤ rise piece Rotations.Spawn ≡ pos 20 = ap (λ (z : ℤ). pos 20 +ℤ z) (rise_spawn piece) in
+    let spawn_free : is_free F (spawn_of piece) ≡ true = open_free F r clear 20 piece room Rotations.Spawn (pos 4, pos 20) start (spawn_fits piece) in
+    let goes = open_leads F r clear 20 piece room (path piece rotation x) Rotations.Spawn 4 20 (rotation, x) start (path_is piece rotation x within fits) in
     search (rules, cond-true)
 
 -- a piece that is free at each row on the way falls

@@ -3,7 +3,7 @@ use Rattle.std.specs.Prelude.{ℕ, zero, suc, ◌-◌, Bool, true, false, ◌&&�
 use Rattle.std.specs.Ordering.{int_eq}
 use Rattle.srs.specs.declared.piece.Piece.{Piece}
 use Rattle.srs.specs.declared.rotation.Rotation.{Rotation}
-use Rattle.srs.specs.declared.rotation.Rotation.TheVariants as Turn
+use Rattle.srs.specs.declared.rotation.Rotation.TheVariants as Rotations
 use Rattle.srs.specs.Cells.{Cell, minus}
 use Rattle.srs.specs.Kick.{srs_table, kicks_of}
 use Rattle.srs.specs.Rotation.{clockwise_of, anticlockwise_of, rotation_index}
@@ -57,10 +57,10 @@ repeated key zero = []
 repeated key (suc n) = key ∷ repeated key n
 
 abbrev pub turns_to : Rotation → List Key
-turns_to Turn.Spawn = []
-turns_to Turn.Right = Clockwise ∷ []
-turns_to Turn.Reverse = Clockwise ∷ Clockwise ∷ []
-turns_to Turn.Left = Anti ∷ []
+turns_to Rotations.Spawn = []
+turns_to Rotations.Right = Clockwise ∷ []
+turns_to Rotations.Reverse = Clockwise ∷ Clockwise ∷ []
+turns_to Rotations.Left = Anti ∷ []
 
 abbrev pub sideways_to : ℕ → ℕ → List Key
 sideways_to from to = if nat_lt to from then repeated Left (from - to) else repeated Right (to - from)
@@ -72,7 +72,7 @@ column_of (Some spot) = spot.1
 -- keys from the spawn's rotation and column: first the turns, then sideways
 abbrev pub path : Piece → Rotation → ℕ → List Key
 path piece rotation x = turns_to rotation ++ sideways_to
-    (column_of (open_led piece (Some (Turn.Spawn, 4)) (turns_to rotation))) x
+    (column_of (open_led piece (Some (Rotations.Spawn, 4)) (turns_to rotation))) x
 
 abbrev pub is_spot : Rotation → ℕ → Option Spot → Bool
 is_spot rotation x None = false
@@ -81,7 +81,7 @@ is_spot rotation x (Some spot) = rotation_index spot.0 == rotation_index rotatio
 -- the keys lead there
 abbrev pub path_leads : Piece → Rotation → ℕ → Bool
 path_leads piece rotation x = not (fits_column piece rotation (pos x))
-    || is_spot rotation x (open_led piece (Some (Turn.Spawn, 4)) (path piece rotation x))
+    || is_spot rotation x (open_led piece (Some (Rotations.Spawn, 4)) (path piece rotation x))
 
 abbrev pub is_some : Option Spot → Bool
 is_some None = false

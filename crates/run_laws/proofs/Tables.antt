@@ -12,10 +12,10 @@ use Rattle.srs.specs.declared.rotation.Rotation.{Rotation}
 use Rattle.srs.specs.declared.rotation.Rotation.TheVariants.{Spawn, Right, Reverse, Left}
 use Rattle.srs.specs.declared.rules.Rules.{Rules}
 use Rattle.srs.specs.declared.rules.Tests.{Tests}
-use Rattle.srs.specs.declared.rules.Turns.{Turns}
+use Rattle.srs.specs.declared.rules.PieceOffsets.{PieceOffsets}
 use Rattle.srs.specs.Cells.{Cell}
 use Rattle.srs.specs.Kick.{IsSmallTable, Table, is_small, is_small_move, pair_of, srs_table}
-use Rattle.srs.specs.Rules.{table_of, turns_table}
+use Rattle.srs.specs.Rules.{table_of, piece_table}
 use Rattle.kick_file.specs.declared.fault.KickFault.{KickFault}
 use Rattle.kick_file.specs.Faults.{IsReadAs, SpellsTable}
 use Rattle.kick_file.specs.Reading.{kick_text}
@@ -70,28 +70,28 @@ module _ (table : Table) (small : IsSmallTable table) where
     small = offsets_small (table p r) (small.small p r);
   }
 
-  turns_at : Piece → Turns
-  turns_at p = record { spawn = tests_at p Spawn; right = tests_at p Right; reverse = tests_at p Reverse; left = tests_at p Left }
+  piece_offsets_at : Piece → PieceOffsets
+  piece_offsets_at p = record { spawn = tests_at p Spawn; right = tests_at p Right; reverse = tests_at p Reverse; left = tests_at p Left }
 
   made : Rules
-  made = record { i = turns_at I; l = turns_at L; o = turns_at O; z = turns_at Z; t = turns_at T; j = turns_at J; s = turns_at S }
+  made = record { i = piece_offsets_at I; l = piece_offsets_at L; o = piece_offsets_at O; z = piece_offsets_at Z; t = piece_offsets_at T; j = piece_offsets_at J; s = piece_offsets_at S }
 
-  turns_same : (p : Piece) (r : Rotation) → turns_table (turns_at p) r ≡ table p r
-  unfolding turns_at tests_at
-  turns_same p Spawn = pairs_same (table p Spawn)
-  turns_same p Right = pairs_same (table p Right)
-  turns_same p Reverse = pairs_same (table p Reverse)
-  turns_same p Left = pairs_same (table p Left)
+  piece_tables_same : (p : Piece) (r : Rotation) → piece_table (piece_offsets_at p) r ≡ table p r
+  unfolding piece_offsets_at tests_at
+  piece_tables_same p Spawn = pairs_same (table p Spawn)
+  piece_tables_same p Right = pairs_same (table p Right)
+  piece_tables_same p Reverse = pairs_same (table p Reverse)
+  piece_tables_same p Left = pairs_same (table p Left)
 
   at_piece : (p : Piece) (r : Rotation) → table_of made p r ≡ table p r
   unfolding table_of made
-  at_piece I r = turns_same I r
-  at_piece L r = turns_same L r
-  at_piece O r = turns_same O r
-  at_piece Z r = turns_same Z r
-  at_piece T r = turns_same T r
-  at_piece J r = turns_same J r
-  at_piece S r = turns_same S r
+  at_piece I r = piece_tables_same I r
+  at_piece L r = piece_tables_same L r
+  at_piece O r = piece_tables_same O r
+  at_piece Z r = piece_tables_same Z r
+  at_piece T r = piece_tables_same T r
+  at_piece J r = piece_tables_same J r
+  at_piece S r = piece_tables_same S r
 
   pub rules-made : (rules : Rules) × (table_of rules ≡ table)
   rules-made = (made, fun_ext (λ p. fun_ext (λ r. at_piece p r)))

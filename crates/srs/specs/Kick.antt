@@ -49,22 +49,22 @@ kicks_of table piece from to =
     ∷ kick_in table piece from to 4 ∷ kick_in table piece from to 5 ∷ []
 
 -- the offsets of one piece with one of them changed
-abbrev pub turns_with : (Rotation → List Cell) → Rotation → ℕ → Cell → Rotation → List Cell
-turns_with turns rotation test offset r =
-    if rotation_index r == rotation_index rotation then slice_set (turns r) (test - 1) offset else turns r
+abbrev pub piece_table_with : (Rotation → List Cell) → Rotation → ℕ → Cell → Rotation → List Cell
+piece_table_with table rotation test offset r =
+    if rotation_index r == rotation_index rotation then slice_set (table r) (test - 1) offset else table r
 
 -- the table with one offset changed
 abbrev pub table_with : Table → Piece → Rotation → ℕ → Cell → Table
 table_with table piece rotation test offset p =
-    if piece_code p == piece_code piece then turns_with (table p) rotation test offset else table p
+    if piece_code p == piece_code piece then piece_table_with (table p) rotation test offset else table p
 
 -- whether the offsets of one piece are the same
-abbrev pub turns_eq : (Rotation → List Cell) → (Rotation → List Cell) → Bool
-turns_eq turns others = list_all (λ rotation. cells_eq (turns rotation) (others rotation)) all_rotations
+abbrev pub piece_tables_eq : (Rotation → List Cell) → (Rotation → List Cell) → Bool
+piece_tables_eq table others = list_all (λ rotation. cells_eq (table rotation) (others rotation)) all_rotations
 
 -- whether two tables are the same
 abbrev pub table_eq : Table → Table → Bool
-table_eq table other = list_all (λ piece. turns_eq (table piece) (other piece)) all_pieces
+table_eq table other = list_all (λ piece. piece_tables_eq (table piece) (other piece)) all_pieces
 
 -- columns and rows of an offset
 abbrev pub pair_of : Offset → Cell

@@ -1,7 +1,7 @@
 // The table of offsets that gives the kicks of all turns.
 ghost use Rattle.std.specs.Prelude.{◌≡◌, ◌-◌, ◌≤◌, ◌↔◌, IsTrue, length, map, slice_set};
 ghost use Rattle.std.specs.List.{list_all};
-ghost use Rattle.srs.specs.Kick.{is_small, pair_of, offset_in, srs_table, turns_with, table_with, turns_eq, table_eq};
+ghost use Rattle.srs.specs.Kick.{is_small, pair_of, offset_in, srs_table, piece_table_with, table_with, piece_tables_eq, table_eq};
 ghost use Rattle.srs.specs.SameCells.{cells_eq};
 
 use crate::offset::Offset;
@@ -18,7 +18,7 @@ struct Tests {
 
 /// The offsets of one piece in its four rotations.
 #[derive(Clone, Copy, Debug, PartialEq, Eq)]
-struct Turns {
+struct PieceOffsets {
     spawn: Tests,
     right: Tests,
     reverse: Tests,
@@ -29,13 +29,13 @@ struct Turns {
 /// three rows.
 #[derive(Clone, Copy, Debug, PartialEq, Eq)]
 pub struct Rules {
-    i: Turns,
-    l: Turns,
-    o: Turns,
-    z: Turns,
-    t: Turns,
-    j: Turns,
-    s: Turns,
+    i: PieceOffsets,
+    l: PieceOffsets,
+    o: PieceOffsets,
+    z: PieceOffsets,
+    t: PieceOffsets,
+    j: PieceOffsets,
+    s: PieceOffsets,
 }
 
 impl Tests {
@@ -59,12 +59,12 @@ impl Tests {
     }
 }
 
-impl Turns {
-    ghost use Rattle.srs.specs.Rules.{turns_table};
+impl PieceOffsets {
+    ghost use Rattle.srs.specs.Rules.{piece_table};
 
     /// The offsets in a rotation.
     fn tests(&self, rotation: Rotation) -> &Tests
-        ensures { map pair_of result.now.offsets ≡ turns_table self.now rotation }
+        ensures { map pair_of result.now.offsets ≡ piece_table self.now rotation }
     {
         match rotation {
             Rotation::Spawn => &self.spawn,
@@ -75,8 +75,8 @@ impl Turns {
     }
 
     /// Whether the offsets are the same in every rotation.
-    fn is_same(&self, other: &Turns) -> bool
-        ensures { result ≡ turns_eq (turns_table self.now) (turns_table other.now) }
+    fn is_same(&self, other: &PieceOffsets) -> bool
+        ensures { result ≡ piece_tables_eq (piece_table self.now) (piece_table other.now) }
     {
         self.spawn.is_same(&other.spawn)
             && self.right.is_same(&other.right)
@@ -85,25 +85,25 @@ impl Turns {
     }
 
     /// The same offsets, with this one for the given rotation and test (1 to 5).
-    fn with_offset(&self, rotation: Rotation, test: u8, offset: Offset) -> Turns
+    fn with_offset(&self, rotation: Rotation, test: u8, offset: Offset) -> PieceOffsets
         requires first { 1 ≤ test }
         requires last { test ≤ 5 }
         requires small { IsTrue (is_small offset) }
-        ensures { turns_table result ≡ turns_with (turns_table self.now) rotation test (pair_of offset) }
+        ensures { piece_table result ≡ piece_table_with (piece_table self.now) rotation test (pair_of offset) }
     {
-        let mut turns = *self;
+        let mut table = *self;
         match rotation {
-            Rotation::Spawn => turns.spawn = turns.spawn.with_offset(test, offset),
-            Rotation::Right => turns.right = turns.right.with_offset(test, offset),
-            Rotation::Reverse => turns.reverse = turns.reverse.with_offset(test, offset),
-            Rotation::Left => turns.left = turns.left.with_offset(test, offset),
+            Rotation::Spawn => table.spawn = table.spawn.with_offset(test, offset),
+            Rotation::Right => table.right = table.right.with_offset(test, offset),
+            Rotation::Reverse => table.reverse = table.reverse.with_offset(test, offset),
+            Rotation::Left => table.left = table.left.with_offset(test, offset),
         }
-        turns
+        table
     }
 }
 
 impl Rules {
-    ghost use Rattle.srs.specs.Rules.{table_of, turns_table};
+    ghost use Rattle.srs.specs.Rules.{table_of, piece_table};
 
     /// The offsets of the Super Rotation System.
     pub fn srs() -> Rules
@@ -114,19 +114,19 @@ impl Rules {
                 Tests { offsets: [$(Offset { dx: $dx, dy: $dy }),*] }
             };
         }
-        let usual = Turns {
+        let usual = PieceOffsets {
             spawn: tests! { (0, 0) (0, 0) (0, 0) (0, 0) (0, 0) },
             right: tests! { (0, 0) (1, 0) (1, -1) (0, 2) (1, 2) },
             reverse: tests! { (0, 0) (0, 0) (0, 0) (0, 0) (0, 0) },
             left: tests! { (0, 0) (-1, 0) (-1, -1) (0, 2) (-1, 2) },
         };
-        let long = Turns {
+        let long = PieceOffsets {
             spawn: tests! { (0, 0) (-1, 0) (2, 0) (-1, 0) (2, 0) },
             right: tests! { (-1, 0) (0, 0) (0, 0) (0, 1) (0, -2) },
             reverse: tests! { (-1, 1) (1, 1) (-2, 1) (1, 0) (-2, 0) },
             left: tests! { (0, 1) (0, 1) (0, 1) (0, -1) (0, 2) },
         };
-        let square = Turns {
+        let square = PieceOffsets {
             spawn: tests! { (0, 0) (0, 0) (0, 0) (0, 0) (0, 0) },
             right: tests! { (0, -1) (0, -1) (0, -1) (0, -1) (0, -1) },
             reverse: tests! { (-1, -1) (-1, -1) (-1, -1) (-1, -1) (-1, -1) },
@@ -150,7 +150,7 @@ impl Rules {
         ensures offset { pair_of result ≡ offset_in (table_of self.now) piece rotation test }
         ensures small { IsTrue (is_small result) }
     {
-        self.turns(piece).tests(rotation).offsets[test as usize - 1]
+        self.of_piece(piece).tests(rotation).offsets[test as usize - 1]
     }
 
     /// Whether the table is that of `Rules::srs()`.
@@ -162,8 +162,8 @@ impl Rules {
 
     /// The offsets of a piece.
     #[tactic(auto, unfolding(crate::specs::Rules::table_of))]
-    fn turns(&self, piece: Piece) -> &Turns
-        ensures { turns_table result.now ≡ table_of self.now piece }
+    fn of_piece(&self, piece: Piece) -> &PieceOffsets
+        ensures { piece_table result.now ≡ table_of self.now piece }
     {
         match piece {
             Piece::I => &self.i,

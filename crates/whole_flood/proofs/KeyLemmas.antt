@@ -6,7 +6,7 @@ use Rattle.std.proofs.lemmas.Bool.{cases_Bool, and_parts, cond-true, cond-false,
 use Rattle.lane_board.specs.Field.{Field, has_cell, empty_field, intersection, with_cell}
 use Rattle.srs.specs.declared.piece.Piece.{Piece}
 use Rattle.srs.specs.declared.rotation.Rotation.{Rotation}
-use Rattle.srs.specs.declared.rotation.Rotation.TheVariants as Turn
+use Rattle.srs.specs.declared.rotation.Rotation.TheVariants as Rotations
 use Rattle.srs.specs.declared.placement.Placement.{Placement}
 use Rattle.srs.specs.Cells.{Cell}
 use Rattle.srs.specs.Kick.{Table}
@@ -43,18 +43,18 @@ led_same table F free piece is (key ∷ keys) s kind =
 
 -- a start state is the spawn, and free
 record StartsAt (free : States) (s : Placement) : Type 0 where
-  turn : s.rotation ≡ Turn.Spawn
+  turn : s.rotation ≡ Rotations.Spawn
   column : s.x ≡ 4
   row : s.y ≡ 20
-  is_free : free Turn.Spawn 4 20 ≡ true
+  is_free : free Rotations.Spawn 4 20 ≡ true
 
 started-at : (free : States) (s : Placement) → has_state (started free) s ≡ true → StartsAt free s
 unfolding started intersection with_cell empty_field has_state
 started-at free s held = search (rules, with_cases, ChangedIn, false≢true, and_parts, eqb-true)
 
-started-has : (free : States) (piece : Piece) → free Turn.Spawn 4 20 ≡ true → has_state (started free) (spawn_of piece) ≡ true
+started-has : (free : States) (piece : Piece) → free Rotations.Spawn 4 20 ≡ true → has_state (started free) (spawn_of piece) ≡ true
 unfolding started intersection with_cell empty_field has_state
-started-has free piece is_free = ap (λ (F : Field). F 4 20) (with_here no_states Turn.Spawn (intersection (with_cell empty_field 4 20) (free Turn.Spawn))) ∙ is_free
+started-has free piece is_free = ap (λ (F : Field). F 4 20) (with_here no_states Rotations.Spawn (intersection (with_cell empty_field 4 20) (free Rotations.Spawn))) ∙ is_free
 
 -- the flood begins at the spawn, where that is free
 pub starts_at : (F : Field) (piece : Piece) (free : States) (s : Placement) → IsFreeMap F piece free → s.piece ≡ piece → has_state (started free) s ≡ true → spawned F piece ≡ Some s
