@@ -1,6 +1,8 @@
 // Whether a sequence clears the field of a problem.
-ghost use Rattle.std.specs.Prelude.{◌+◌, ◌≤◌, ◌↔◌, IsTrue, length};
+ghost use Rattle.std.specs.Prelude.{◌≡◌, ◌+◌, ◌≤◌, ◌↔◌, IsTrue, length};
+ghost use Rattle.srs.specs.Rules.{table_of};
 ghost use Rattle.problem.specs.Problem.{IsFit};
+ghost use Rattle.reach.specs.FloodRules.{flood_table};
 ghost use Rattle.cover.specs.Covered.{PlaysIn};
 
 use problem::{Problem, Sequence, lies_below};
@@ -15,7 +17,22 @@ pub fn plays<L: Ledger>(problem: &Problem, sequence: &Sequence, steps: &mut Step
     ensures counted { steps.old ≤ steps.new }
     ensures few { steps.new ≤ steps.old + length sequence.now.items }
 {
-    let rules = FloodRules::new(&problem.rules);
+    plays_by(problem, &FloodRules::new(&problem.rules), sequence, steps)
+}
+
+/// The same by the rules of the problem, prepared for many floods.
+pub(crate) fn plays_by<L: Ledger>(
+    problem: &Problem,
+    rules: &FloodRules,
+    sequence: &Sequence,
+    steps: &mut Steps<L>,
+) -> bool
+    requires fit { IsFit problem.now }
+    requires rules { flood_table rules.now ≡ table_of problem.now.rules }
+    ensures exact { IsTrue result ↔ PlaysIn problem.now sequence.now.items }
+    ensures counted { steps.old ≤ steps.new }
+    ensures few { steps.new ≤ steps.old + length sequence.now.items }
+{
     let mut well = problem.well;
     let mut rows = problem.height;
     'placements: for placement in sequence.as_slice() {

@@ -1,7 +1,9 @@
 // The kinds of known sequences, and the queues that permit them.
 ghost use Rattle.std.specs.Prelude.{◌≡◌, List, OnErr, OnOk, map};
 ghost use Rattle.srs.specs.declared.piece.Piece.{Piece};
+ghost use Rattle.srs.specs.Rules.{table_of};
 ghost use Rattle.problem.specs.Problem.{IsFit};
+ghost use Rattle.reach.specs.FloodRules.{flood_table};
 ghost use Rattle.cover.specs.Covered.{Keeps};
 ghost use Rattle.cover.specs.Lists.{has_kinds, listed_kinds};
 ghost use Rattle.cover.specs.Nodes.{spells};
@@ -10,13 +12,13 @@ ghost use Rattle.cover.specs.Tree.{nodes_of};
 use crate::front::end_of_front;
 use crate::kinds::{Kinds, kinds_of};
 use crate::look::{Look, look_at};
-use crate::play::plays;
+use crate::play::plays_by;
 use crate::tree::Tree;
 use hold_queue::Hand;
 use indexmap::IndexSet;
 use pc_outside::NoMemory;
 use problem::{Problem, Sequence};
-use reach::Steps;
+use reach::{FloodRules, Steps};
 use std::alloc::Global;
 use std::sync::ledger::Ledger;
 
@@ -25,9 +27,11 @@ use std::sync::ledger::Ledger;
 #[derive(Drop)]
 pub struct CoverSet {
     problem: Problem,
+    flood: FloodRules,
     lists: IndexSet<Kinds>,
     tree: Tree,
     ghost fit: { IsFit problem },
+    ghost floods: { flood_table flood ≡ table_of problem.rules },
     ghost listed: { (kinds : List Piece) →
         spells (nodes_of tree) 0 kinds ≡ has_kinds (map listed_kinds lists.keys) kinds },
 }
@@ -65,6 +69,7 @@ impl CoverSet {
         let tree = Tree::new(alloc)?;
         Ok(CoverSet {
             problem,
+            flood: FloodRules::new(&problem.rules),
             lists: IndexSet::new(alloc),
             tree,
         })
@@ -87,7 +92,7 @@ impl CoverSet {
         ensures counted { steps.old ≤ steps.new }
         ensures few { steps.new ≤ steps.old + length sequence.now.items }
     {
-        if !plays(&self.problem, sequence, steps) {
+        if !plays_by(&self.problem, &self.flood, sequence, steps) {
             return Ok(false);
         }
         keep(&mut self.tree, &mut self.lists, kinds_of(sequence))?;

@@ -8,9 +8,9 @@ use Rattle.cover.proofs.set.CoverSet.add.Goals as goal
 on_err : {A E : Type 0} (r : Result A E) (P : Type 0) → P → OnErr r P
 on_err r P holds = search rules
 
-pub returns-then-not-plays-clause-plays : goal.returns-then-not-plays-clause-plays
+pub returns-then-not-plays_by-clause-plays : goal.returns-then-not-plays_by-clause-plays
 unfolding kept_problem
-returns-then-not-plays-clause-plays g c = c.if-not-plays.ensures.exact
+returns-then-not-plays_by-clause-plays g c = c.if-not-plays_by.ensures.exact
 
 pub returns-in_err-keep-clause-problem : goal.returns-in_err-keep-clause-problem
 unfolding kept_problem
@@ -26,7 +26,7 @@ returns-clause-problem g c = refl
 
 pub returns-clause-plays : goal.returns-clause-plays
 unfolding kept_problem
-returns-clause-plays g c = c.if-not-plays.ensures.exact
+returns-clause-plays g c = c.if-not-plays_by.ensures.exact
 
 pub returns-clause-kept : goal.returns-clause-kept
 unfolding lists_of

@@ -10,7 +10,7 @@ use Rattle.well.proofs.CallerLemmas.{free_inside}
 use Rattle.moves.specs.Place.{IsPlace}
 use Rattle.moves.proofs.CallerLemmas.{place-free}
 use Rattle.cover.proofs.PlayLemmas.{played-starts, played-goes_on}
-use Rattle.cover.proofs.play.plays.Goals as goal
+use Rattle.cover.proofs.play.plays_by.Goals as goal
 
 abbrev no_placement : Placement
 no_placement = record { piece = I; rotation = Spawn; x = 0; y = 0 }
@@ -31,7 +31,7 @@ placements-preserved g c =
     let i = c.placements.placement-index in
     let q = get_or items i no_placement in
     let split : drop i items ≡ q ∷ drop (i + 1) items = let within = c.placements-test.true in rw (add-one, drop-cons items i no_placement) refl in
-    let place = subst (λ table. IsPlace table (filled c.placements.well) problem.drop_mode q) c.new-rules.ensures
+    let place = subst (λ table. IsPlace table (filled c.placements.well) problem.drop_mode q) c.requires.rules
     ((c.places-places.ensures.held q).0 (sym c.contains.ensures ∙ c.if-not-contains.false)).1 in
     played-goes_on (table_of problem.rules) problem.drop_mode (filled problem.well) (filled c.placements.well) problem.height c.placements.rows c.args.sequence.now.items (drop (i + 1) items) (drop i items) q
     c.args.steps.now c.placements.steps c.places-places.new.steps i c.placements.invariant split

@@ -3,7 +3,7 @@ use Rattle.std.proofs.Common.{drop}
 use Rattle.srs.specs.Rules.{table_of}
 use Rattle.well.specs.Well.{filled}
 use Rattle.cover.proofs.PlayLemmas.{IsPlayed}
-use Rattle.cover.proofs.play.plays.Given as goal
+use Rattle.cover.proofs.play.plays_by.Given as goal
 
 abbrev pub invariant-placements : goal.invariant-placements
 invariant-placements g l =
