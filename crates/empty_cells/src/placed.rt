@@ -1,14 +1,14 @@
 // The cells that a placement leaves.
-ghost use Rattle.std.specs.Prelude.{◌≡◌, ◌≤◌, ◌+◌, ◌*◌, ◌&&◌, ℕ, nat_le, pos};
+ghost use Rattle.std.specs.Prelude.{◌≡◌, ◌≤◌, ◌≤ℤ◌, ◌+◌, ◌+ℤ◌, ◌*◌, ◌==◌, ◌&&◌, ℕ, IsTrue, nat_abs, nat_le, pos};
 ghost use Rattle.lane_board.specs.Lanes.{has_bit};
-ghost use Rattle.srs.specs.Cells.{cells_of};
+ghost use Rattle.srs.specs.Cells.{cells_of, is_near, minus, shape};
 ghost use Rattle.srs.specs.SameCells.{is_among};
 ghost use Rattle.empty_cells.specs.Empties.{empty_cells, without_placement};
-ghost use Rattle.empty_cells.specs.ShapeBits.{shape_bits};
+ghost use Rattle.empty_cells.specs.ShapeBits.{bit_index, has_shape_bit};
 ghost use Rattle.srs.specs.declared.placement.Placement.{Placement};
 
 use crate::empties::Empties;
-use srs::{Piece, Placement, Rotation};
+use srs::{Piece, Placement, Rotation, shape};
 
 impl Empties {
     /// The set without the cells of a placement.
@@ -47,30 +47,59 @@ fn rows_kept(y: u8) -> u64
     (0x3fc >> y & 0xff) * 0x1_0101_0101
 }
 
-/// The cells of a piece whose pivot is in column 2 and row 2: bit `8 * column + row`.
+/// The cells of a piece whose pivot is in column 2 and row 2: bit `8 * column + row`. Each arm is a constant.
 #[inline(always)]
 fn shape_bits(piece: Piece, rotation: Rotation) -> u64
-    ensures { result ≡ shape_bits piece rotation }
+    ensures { (k : ℕ) → has_bit result k ≡ has_shape_bit (shape piece rotation) k }
 {
-    macro_rules! shapes {
-        ($($kind:ident: $spawn:expr, $right:expr, $reverse:expr, $left:expr;)*) => {
-            match piece {
-                $(Piece::$kind => match rotation {
-                    Rotation::Spawn => $spawn,
-                    Rotation::Right => $right,
-                    Rotation::Reverse => $reverse,
-                    Rotation::Left => $left,
-                },)*
-            }
-        };
+    match piece {
+        Piece::I => turned_bits(Piece::I, rotation),
+        Piece::L => turned_bits(Piece::L, rotation),
+        Piece::O => turned_bits(Piece::O, rotation),
+        Piece::Z => turned_bits(Piece::Z, rotation),
+        Piece::T => turned_bits(Piece::T, rotation),
+        Piece::J => turned_bits(Piece::J, rotation),
+        Piece::S => turned_bits(Piece::S, rotation),
     }
-    shapes! {
-        I: 0x4_0404_0400, 0xf_0000, 0x404_0404, 0x1e_0000;
-        L: 0xc04_0400, 0x20e_0000, 0x404_0600, 0xe_0800;
-        O: 0xc0c_0000, 0x606_0000, 0x6_0600, 0xc_0c00;
-        Z: 0x40c_0800, 0xc06_0000, 0x206_0400, 0xc_0600;
-        T: 0x40c_0400, 0x40e_0000, 0x406_0400, 0xe_0400;
-        J: 0x404_0c00, 0x80e_0000, 0x604_0400, 0xe_0200;
-        S: 0x80c_0400, 0x60c_0000, 0x406_0200, 0x6_0c00;
+}
+
+/// The same for a piece that is known when the program is built.
+#[inline(always)]
+fn turned_bits(piece: Piece, rotation: Rotation) -> u64
+    ensures { (k : ℕ) → has_bit result k ≡ has_shape_bit (shape piece rotation) k }
+{
+    match rotation {
+        Rotation::Spawn => known_bits(piece, Rotation::Spawn),
+        Rotation::Right => known_bits(piece, Rotation::Right),
+        Rotation::Reverse => known_bits(piece, Rotation::Reverse),
+        Rotation::Left => known_bits(piece, Rotation::Left),
     }
+}
+
+/// The same for a rotation that is known then too.
+#[inline(always)]
+fn known_bits(piece: Piece, rotation: Rotation) -> u64
+    ensures { (k : ℕ) → has_bit result k ≡ has_shape_bit (shape piece rotation) k }
+{
+    let [a, b, c, d] = shape(piece, rotation);
+    cell_bit(a) | cell_bit(b) | cell_bit(c) | cell_bit(d)
+}
+
+/// The bit of the cell at this offset from the pivot.
+#[inline(always)]
+fn cell_bit(offset: (i8, i8)) -> u64
+    requires { IsTrue (is_near offset) }
+    ensures { (k : ℕ) → has_bit result k ≡ (bit_index offset == k) }
+{
+    1 << (8 * from_two(offset.0) + from_two(offset.1))
+}
+
+/// The column or row at this offset from column or row 2.
+#[inline(always)]
+fn from_two(offset: i8) -> u8
+    requires low { minus 2 ≤ℤ offset }
+    requires high { offset ≤ℤ pos 2 }
+    ensures { result ≡ nat_abs (pos 2 +ℤ offset) }
+{
+    (2 + offset) as u8
 }
