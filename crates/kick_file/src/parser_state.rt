@@ -78,27 +78,14 @@ impl ParserState {
                 piece: Piece::from_letter(byte)?,
                 start: place,
             }),
-            ParserState::Letter { piece, start } => {
-                let rotation = Rotation::from_letter(byte)?;
-                let turned = TurnedPiece { piece, rotation };
-                Some(ParserState::Letters { turned, start })
-            }
-            ParserState::Letters { turned, .. } if byte == b':' => Some(ParserState::Columns {
-                turned,
-                test: 1,
-                is_negative: false,
-            }),
+            ParserState::Letter { piece, start } => letters(piece, start, byte),
+            ParserState::Letters { turned, .. } => colon(turned, byte),
             ParserState::Columns {
                 turned,
                 test,
                 is_negative,
             } => columns(turned, test, is_negative, byte),
-            ParserState::Comma { turned, test, dx } if byte == b',' => Some(ParserState::Rows {
-                turned,
-                test,
-                dx,
-                is_negative: false,
-            }),
+            ParserState::Comma { turned, test, dx } => comma(turned, test, dx, byte),
             ParserState::Rows {
                 turned,
                 test,
@@ -110,9 +97,50 @@ impl ParserState {
                 test,
                 offset,
             } => after_offset(turned, test, offset, byte),
-            _ => None,
         }
     }
+}
+
+/// The letter of a rotation, behind that of a piece at the place `start`.
+fn letters(piece: Piece, start: usize, byte: u8) -> Option<ParserState>
+    ensures next { result ≡ next_state (ParserState.Letter piece start) 0 byte }
+    ensures sound { IfSome result (λ state. IsTrue (is_sound_state state)) }
+{
+    let rotation = Rotation::from_letter(byte)?;
+    let turned = TurnedPiece { piece, rotation };
+    Some(ParserState::Letters { turned, start })
+}
+
+/// The `:` behind the letters of a piece and of a rotation.
+fn colon(turned: TurnedPiece, byte: u8) -> Option<ParserState>
+    ensures next { result ≡ next_state (ParserState.Letters turned 0) 0 byte }
+    ensures sound { IfSome result (λ state. IsTrue (is_sound_state state)) }
+{
+    if byte == b':' {
+        return Some(ParserState::Columns {
+            turned,
+            test: 1,
+            is_negative: false,
+        });
+    }
+    None
+}
+
+/// The comma behind the columns of an offset.
+fn comma(turned: TurnedPiece, test: u8, dx: i8, byte: u8) -> Option<ParserState>
+    requires { IsTrue (is_sound_state (ParserState.Comma turned test dx)) }
+    ensures next { result ≡ next_state (ParserState.Comma turned test dx) 0 byte }
+    ensures sound { IfSome result (λ state. IsTrue (is_sound_state state)) }
+{
+    if byte == b',' {
+        return Some(ParserState::Rows {
+            turned,
+            test,
+            dx,
+            is_negative: false,
+        });
+    }
+    None
 }
 
 /// What stands behind the offset of a test: the `/` before the next one, or the `;` after the last.
