@@ -12,8 +12,8 @@ use Rattle.pc_faults.proofs.CallerLemmas.{inner_first, inner_test}
 use Rattle.pc_settings.specs.Request.{ComboRequest}
 use Rattle.pc_source.specs.FieldTask.{its_field}
 use Rattle.pc_source.proofs.FieldTasks.{inner_of_field}
-use Rattle.pc_problem.specs.Faults.{full_row_fault, pattern_fault}
-use Rattle.pc_problem.proofs.CallerLemmas.{inner_full_row, inner_pattern}
+use Rattle.pc_source.specs.ProblemFaults.{full_row_fault, pattern_fault}
+use Rattle.pc_source.proofs.CallerLemmas.{inner_full_row, inner_pattern}
 use Rattle.pc_combo.specs.ComboTask.{run_task}
 use Rattle.pc_combo.specs.Faults.{combo_fault, count_fault, one_queue, run_fault}
 

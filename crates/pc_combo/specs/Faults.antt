@@ -9,7 +9,7 @@ use Rattle.pc_faults.specs.declared.fault.Fault.{Fault}
 use Rattle.pc_faults.specs.declared.fault.Fault.TheVariants as faults
 use Rattle.pc_faults.specs.FirstFault.{first_of_these}
 use Rattle.pc_source.specs.FieldTask.{fault_by_field, its_field}
-use Rattle.pc_problem.specs.Faults.{full_row_fault, pattern_fault}
+use Rattle.pc_source.specs.ProblemFaults.{full_row_fault, pattern_fault}
 use Rattle.pc_settings.specs.Request.{ComboRequest}
 
 abbrev pub one_queue : ℕ → Option Fault

@@ -8,8 +8,8 @@ ghost use Rattle.pc_combo.specs.Faults.{one_queue, run_fault};
 ghost use Rattle.pc_combo.specs.Output.{IsOneQueue};
 
 use pc_faults::Fault;
-use pc_problem::{open_rows, pattern_of};
 use pc_settings::ComboSettings;
+use pc_source::{open_rows, pattern_of};
 use queue_pattern::{Pattern, Queue};
 use well::Well;
 

@@ -1,9 +1,11 @@
--- What `cover` answers once its field is had.
+-- What `cover` answers, and that it finds no fault of the words, and none that the source is too long.
 use Rattle.std.proofs.Common.{◌≡◌, ◌≢◌, ℕ, ◌+◌, ◌-◌, ◌≤◌, ◌/◌, List, length, map, sum_by, arith, true, Some, None, Ok, Err, refl, sym, ap, subst, rules}
 use Rattle.arrayvec.specs.ArrayVec.{ArrayVec}
 use Rattle.lane_board.specs.Field.{Field}
 use Rattle.srs.specs.declared.placement.Placement.{Placement}
 use Rattle.well.specs.Counts.{empties_below}
+use Rattle.well.specs.Well.{filled}
+use Rattle.problem.specs.declared.problem.Problem.{Problem}
 use Rattle.pc_outside.specs.declared.answers.Refused.{Refused}
 use Rattle.pc_outside.specs.declared.answers.Refused.TheVariants as refused
 use Rattle.fumen_digits.specs.Answers.{IsRefusal}
@@ -12,30 +14,34 @@ use Rattle.pc_faults.specs.declared.fault.Fault.{Fault}
 use Rattle.pc_faults.specs.declared.fault.Fault.TheVariants as faults
 use Rattle.pc_faults.specs.declared.status.Status.{Status}
 use Rattle.pc_faults.specs.declared.status.Status.TheVariants.{NoMemory}
+use Rattle.pc_faults.specs.Codes.{refused_status}
 use Rattle.pc_faults.specs.Inner.{IsInner}
 use Rattle.pc_faults.proofs.CallerLemmas.{first_stops, inner_first}
 use Rattle.pc_settings.specs.Request.{FieldRequest}
 use Rattle.pc_source.specs.Ends.{CommandEnds}
 use Rattle.pc_source.specs.FieldTask.{its_rest}
+use Rattle.pc_source.specs.FieldText.{dash}
+use Rattle.pc_source.specs.Had.{HasProblem, IsRefusedInput}
+use Rattle.pc_source.specs.ProblemFaults.{problem_fault, request_fault}
 use Rattle.pc_source.specs.Sink.{SinkChange}
 use Rattle.pc_source.specs.Task.{nothing, source_bytes}
+use Rattle.pc_source.proofs.CallerLemmas.{inner_problem, refusal_before}
 use Rattle.pc_source.proofs.CommandEnds.{ends_by_fault, ends_refused}
-use Rattle.pc_source.proofs.FieldTasks.{inner_of_field}
-use Rattle.pc_problem.specs.Faults.{problem_fault}
-use Rattle.pc_problem.proofs.CallerLemmas.{inner_problem}
-use Rattle.pc_cover.specs.CoverTask.{covering_task}
+use Rattle.pc_source.proofs.FieldFaults.{request_first}
+use Rattle.pc_source.proofs.FieldTasks.{field_had, inner_of_field}
+use Rattle.pc_cover.specs.CoverTask.{cover_task, covering_task}
 use Rattle.pc_cover.specs.LineStatus.{status_of_lines}
 use Rattle.pc_cover.specs.Faults.{cover_fault, covering_fault, given_fault}
 use Rattle.pc_cover.specs.Given.{Given, given_in}
 use Rattle.pc_cover.specs.Sequences.{listed_placements}
 use Rattle.pc_cover.specs.Work.{IsCoveringWork}
 
-pub reads-something : source_bytes ≢ nothing
+reads-something : source_bytes ≢ nothing
 reads-something e = cc
 
 -- ---- what is asked about the field, and then the lines
 
-pub problem_first : (request : FieldRequest) (F : Field) (bytes : List ℕ) (f : Fault) → problem_fault request F ≡ Some f → covering_fault request F bytes ≡ Some f
+problem_first : (request : FieldRequest) (F : Field) (bytes : List ℕ) (f : Fault) → problem_fault request F ≡ Some f → covering_fault request F bytes ≡ Some f
 unfolding covering_fault
 problem_first request F bytes f is = first_stops (problem_fault request F) _ f is
 
@@ -70,6 +76,21 @@ module _ (request : FieldRequest) (F : Field) (bytes : List ℕ) (needed : ℕ) 
   pub lines_refused : (r : Refused CoverFault) (status : Status) → status ≡ status_of_lines r → problem_fault request F ≡ None → needed ≡ empties_below F request.height / 4 → IsRefusal (λ f. f) r (given_in needed bytes) → Kept → now ≡ before
       → CommandEnds (covering_task request F) bytes sink Kept before now status
   lines_refused r status same none is read kept idle = subst (CommandEnds (covering_task request F) bytes sink Kept before now) (sym same) (lines_end r none is read kept idle)
+
+-- ---- the problem
+
+module _ (request : FieldRequest) (bytes : List ℕ) (sink : SinkChange) (Kept : Type 0) (before now : ℕ) where
+  -- it is refused
+  pub problem_refused : (r : Refused Fault) (status : Status) → status ≡ refused_status r → Kept → now ≡ before → IsRefusedInput (request_fault request dash) r → CommandEnds (cover_task request) bytes sink Kept before now status
+  problem_refused r status same kept idle is =
+      ends_refused (cover_task request) bytes sink Kept before now r status same kept idle (λ _. reads-something)
+      (refusal_before (request_fault request dash) (cover_fault request bytes) r (request_first its_rest request (covering_fault request) bytes (λ F. problem_first request F bytes)) is)
+
+  -- it is had, and the run ends as what is asked about its field
+  pub cover_ends : (problem : Problem) → HasProblem request dash problem → (status : Status) → CommandEnds (covering_task request (filled problem.well)) bytes sink Kept before now status
+      → CommandEnds (cover_task request) bytes sink Kept before now status
+  cover_ends problem has =
+      field_had its_rest request.field request.page true (covering_task request) bytes sink Kept before now (filled problem.well) has.field (λ none. none) (λ _. refl)
 
 -- ---- the floods
 

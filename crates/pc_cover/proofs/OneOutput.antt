@@ -12,8 +12,8 @@ use Rattle.cover.specs.Covered.{IsCovered, IsCoveredList}
 use Rattle.pc_settings.specs.Request.{FieldRequest}
 use Rattle.pc_source.specs.FieldTask.{its_rest}
 use Rattle.pc_source.proofs.FieldTasks.{one_of_field}
-use Rattle.pc_problem.specs.Problem.{IsProblemOf}
-use Rattle.pc_problem.proofs.CallerLemmas.{same_elements}
+use Rattle.pc_source.specs.Problem.{IsProblemOf}
+use Rattle.pc_source.proofs.CallerLemmas.{same_elements}
 use Rattle.pc_faults.specs.declared.cover_fault.CoverFault.{CoverFault}
 use Rattle.pc_cover.specs.Lines.{cover_form}
 use Rattle.pc_cover.specs.Output.{IsCoverFor, IsCoveringOf}

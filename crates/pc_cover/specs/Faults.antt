@@ -8,7 +8,7 @@ use Rattle.pc_faults.specs.declared.fault.Fault.TheVariants as faults
 use Rattle.pc_faults.specs.FirstFault.{first_of_these}
 use Rattle.pc_settings.specs.Request.{FieldRequest}
 use Rattle.pc_source.specs.FieldTask.{fault_by_field, its_rest}
-use Rattle.pc_problem.specs.Faults.{problem_fault}
+use Rattle.pc_source.specs.ProblemFaults.{problem_fault}
 use Rattle.pc_cover.specs.Given.{Given, given_in}
 
 abbrev pub given_fault : Given → Option Fault

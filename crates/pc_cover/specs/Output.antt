@@ -8,7 +8,7 @@ use Rattle.queue_pattern.specs.Queues.{queues}
 use Rattle.problem.specs.declared.problem.Problem.{Problem}
 use Rattle.cover.specs.Covered.{IsCoveredList}
 use Rattle.pc_settings.specs.Request.{FieldRequest}
-use Rattle.pc_problem.specs.Problem.{IsProblemOf}
+use Rattle.pc_source.specs.Problem.{IsProblemOf}
 use Rattle.pc_cover.specs.Given.{given_in}
 use Rattle.pc_cover.specs.Lines.{cover_form}
 

@@ -1,6 +1,5 @@
-// The command `cover`: the field, the sequences of the source, and then the queues that they cover.
+// The command `cover`: the problem, the sequences of the source, and then the queues that they cover.
 ghost use Rattle.std.specs.Prelude.{◌≡◌, ◌-◌, ◌≤◌, length};
-ghost use Rattle.well.specs.Well.{filled};
 ghost use Rattle.pc_outside.specs.Counts.{HasCause};
 ghost use Rattle.pc_outside.specs.Writes.{WritesAll};
 ghost use Rattle.queue_pattern.specs.Pattern.{elements_of};
@@ -11,7 +10,7 @@ ghost use Rattle.pc_settings.specs.Views.{field_view};
 ghost use Rattle.pc_source.specs.Ends.{CommandEnds};
 ghost use Rattle.pc_source.specs.Sink.{sink_change};
 ghost use Rattle.pc_source.specs.Task.{most_bytes};
-ghost use Rattle.pc_cover.specs.CoverTask.{cover_task, covering_task};
+ghost use Rattle.pc_cover.specs.CoverTask.{cover_task};
 ghost use Rattle.pc_cover.specs.Covering.{numbers_from};
 ghost use Rattle.pc_cover.specs.LineStatus.{status_of_lines};
 ghost use Rattle.pc_cover.specs.Lines.{cover_form};
@@ -21,15 +20,13 @@ use crate::given::sequences_in;
 use cover::CoverSet;
 use pc_faults::{CoverFault, Fault, Status};
 use pc_outside::{Failed, Refused, Sink};
-use pc_problem::problem_of;
 use pc_settings::FieldSettings;
-use pc_source::{Dash, field};
-use problem::Problem;
+use pc_source::{Dash, problem_asked};
+use problem::{Problem, needed};
 use queue_lines::write_numbers;
 use reach::Steps;
 use std::alloc::Global;
 use std::sync::ledger::Ledger;
-use well::Well;
 
 /// Writes the covered queues, and then how many there are of all.
 fn write_answers<O: Sink>(out: &mut O, problem: &Problem, set: &CoverSet) -> Result<(), Failed>
@@ -40,6 +37,16 @@ fn write_answers<O: Sink>(out: &mut O, problem: &Problem, set: &CoverSet) -> Res
 {
     let good = write_covered(out, problem, set)?;
     write_numbers(out, problem.pattern.count(), good)
+}
+
+/// How a run ends if the lines of the source are refused.
+fn refused_by(refused: Refused<CoverFault>) -> Status
+    ensures { result ≡ status_of_lines refused }
+{
+    match refused {
+        Refused::Fault(fault) => Status::Input(Fault::Cover(fault)),
+        Refused::NoMemory => Status::NoMemory,
+    }
 }
 
 /// Writes which queues of the problem that the settings name are covered: they permit the kinds of a sequence that
@@ -58,43 +65,11 @@ pub fn run_cover<O: Sink, L: Ledger>(
         (sink_change O.counts_failures_alone (O.written out.old) (O.written out.new)
         (O.faults out.old) (O.faults out.new)) (out.new ≡ out.old) steps.old steps.new result }
 {
-    match field(alloc, settings.field, settings.page, Dash::Itself) {
-        Ok(well) => cover_all(alloc, well, settings, bytes, out, steps),
-        Err(refused) => Status::from(refused),
-    }
-}
-
-/// How a run ends if the lines of the source are refused.
-fn refused_by(refused: Refused<CoverFault>) -> Status
-    ensures { result ≡ status_of_lines refused }
-{
-    match refused {
-        Refused::Fault(fault) => Status::Input(Fault::Cover(fault)),
-        Refused::NoMemory => Status::NoMemory,
-    }
-}
-
-/// Finds and writes the covered queues for a field.
-fn cover_all<O: Sink, L: Ledger>(
-    alloc: Global,
-    well: Well,
-    settings: &FieldSettings<'_>,
-    bytes: &[u8],
-    out: &mut O,
-    steps: &mut Steps<L>,
-) -> Status
-    requires range { IsInRange (field_view settings.now) }
-    requires short { length bytes.now ≤ most_bytes }
-    ensures { CommandEnds (covering_task (field_view settings.now) (filled well)) bytes.now
-        (sink_change O.counts_failures_alone (O.written out.old) (O.written out.new)
-        (O.faults out.old) (O.faults out.new)) (out.new ≡ out.old) steps.old steps.new result }
-{
-    let problem = match problem_of(well, settings) {
+    let problem = match problem_asked(alloc, settings, Dash::Itself) {
         Ok(problem) => problem,
-        Err(fault) => return Status::Input(fault),
+        Err(refused) => return Status::from(refused),
     };
-    let needed = well.empties_below(settings.height) / 4;
-    let sequences = match sequences_in(alloc, needed, bytes) {
+    let sequences = match sequences_in(alloc, needed(&problem), bytes) {
         Ok(sequences) => sequences,
         Err(refused) => return refused_by(refused),
     };

@@ -8,7 +8,7 @@ use Rattle.problem.specs.declared.problem.Problem.{Problem}
 use Rattle.percent.specs.Good.{Good}
 use Rattle.pc_settings.specs.Request.{FieldRequest}
 use Rattle.pc_source.specs.FieldText.{IsFieldOf}
-use Rattle.pc_problem.specs.Problem.{IsProblemOf}
+use Rattle.pc_source.specs.Problem.{IsProblemOf}
 use Rattle.pc_good_queues.specs.Bits.{AreBitsOf}
 
 -- Of the queues of the problem that is asked about, where the source has these bytes: a bit for each, 1 where it is

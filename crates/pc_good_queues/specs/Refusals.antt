@@ -5,7 +5,7 @@ use Rattle.queue_pattern.specs.Queues.{queues}
 use Rattle.pc_settings.specs.Request.{FieldRequest, PercentRequest}
 use Rattle.pc_source.specs.FieldText.{field_needs}
 use Rattle.pc_source.specs.Task.{nothing}
-use Rattle.pc_problem.specs.Faults.{elements_asked}
+use Rattle.pc_source.specs.ProblemFaults.{elements_asked}
 use Rattle.pc_percent.specs.Faults.{percent_fault}
 use Rattle.pc_good_queues.specs.declared.answer.NoBits.{NoBits}
 use Rattle.pc_good_queues.specs.declared.answer.NoBits.TheVariants.{Fault, NoRoom, NoMemory}

@@ -1,4 +1,4 @@
--- The refusal of a call that reads the field.
+-- The refusal of a call that makes the problem.
 use Rattle.pc_outside.specs.declared.answers.Refused.{Refused}
 use Rattle.pc_outside.specs.declared.answers.Refused.TheVariants as refused
 use Rattle.pc_faults.specs.declared.fault.Fault.{Fault}

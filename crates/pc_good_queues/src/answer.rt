@@ -26,14 +26,6 @@ pub enum NoBits {
     NoMemory,
 }
 
-impl From<Fault> for NoBits {
-    ghost from_gives = { λ fault why. why ≡ NoBits.Fault fault };
-
-    fn from(fault: Fault) -> NoBits {
-        NoBits::Fault(fault)
-    }
-}
-
 impl From<NoMemory> for NoBits {
     ghost from_gives = { λ _ why. why ≡ NoBits.NoMemory };
 

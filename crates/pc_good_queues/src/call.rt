@@ -1,4 +1,4 @@
-// The call: the field, the room, the answers for all queues, and then their bits.
+// The call: the problem, the room, the answers for all queues, and then their bits.
 ghost use Rattle.std.specs.Prelude.{◌≡◌, ◌-◌, ◌≤◌, IfOk, IfErr, OnOk, OnErr, None, length, take, drop};
 ghost use Rattle.pc_percent.specs.Faults.{percent_fault};
 ghost use Rattle.pc_settings.specs.Request.{IsInRange};
@@ -9,9 +9,8 @@ ghost use Rattle.pc_good_queues.specs.Refusals.{Refuses};
 
 use crate::answer::{NoBits, QueueCounts};
 use crate::bits::{bytes_for, write_bits};
-use pc_problem::problem_of;
 use pc_settings::PercentSettings;
-use pc_source::{Dash, field};
+use pc_source::{Dash, problem_asked};
 use percent::Answers;
 use reach::Steps;
 use std::alloc::Global;
@@ -39,9 +38,7 @@ pub fn write_good_queues<L: Ledger>(
     ensures kept { OnErr result (bits.new ≡ bits.old) }
     ensures counted { steps.old ≤ steps.new }
 {
-    let dash = Dash::Source(bytes);
-    let well = field(alloc, settings.common.field, settings.common.page, dash)?;
-    let problem = problem_of(well, &settings.common)?;
+    let problem = problem_asked(alloc, &settings.common, Dash::Source(bytes))?;
     let queues = problem.pattern.count();
     if bits.len() < bytes_for(queues) {
         return Err(NoBits::NoRoom { queues });

@@ -21,8 +21,8 @@ use Rattle.pc_settings.specs.Request.{FieldRequest, PathRequest}
 use Rattle.pc_settings.specs.declared.format.Format.{Format}
 use Rattle.pc_source.specs.FieldTask.{its_field}
 use Rattle.pc_source.proofs.FieldTasks.{one_of_field}
-use Rattle.pc_problem.specs.Problem.{IsProblemOf}
-use Rattle.pc_problem.proofs.CallerLemmas.{same_elements, same_table}
+use Rattle.pc_source.specs.Problem.{IsProblemOf}
+use Rattle.pc_source.proofs.CallerLemmas.{same_elements, same_table}
 use Rattle.pc_path.specs.Formats.{formatted, solution_form, takes_memory_first}
 use Rattle.pc_path.specs.Output.{IsGiven, IsReportOf, stats_form}
 use Rattle.pc_path.specs.PathTask.{listing_task, path_task}

@@ -8,7 +8,7 @@ use Rattle.pc_faults.specs.declared.fault.Fault.{Fault}
 use Rattle.pc_faults.specs.declared.fault.Fault.TheVariants as faults
 use Rattle.pc_faults.specs.FirstFault.{first_of_these}
 use Rattle.pc_source.specs.FieldTask.{fault_by_field, its_field}
-use Rattle.pc_problem.specs.Faults.{problem_fault}
+use Rattle.pc_source.specs.ProblemFaults.{problem_fault}
 use Rattle.pc_settings.specs.Request.{PathRequest}
 
 abbrev pub sequence_fault : Result (List Placement) ℕ → Option Fault

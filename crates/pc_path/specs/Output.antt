@@ -10,7 +10,7 @@ use Rattle.problem.specs.Problem.{needed_of}
 use Rattle.problem.specs.SolutionList.{IsSolutionAbove}
 use Rattle.report.specs.Forms.{floods_form, report_form}
 use Rattle.sequence_text.specs.Form.{Spells}
-use Rattle.pc_problem.specs.Problem.{IsProblemOf}
+use Rattle.pc_source.specs.Problem.{IsProblemOf}
 use Rattle.pc_settings.specs.Request.{PathRequest}
 use Rattle.pc_path.specs.Formats.{solution_form}
 

@@ -1,21 +1,26 @@
 // What `path` lists.
-ghost use Rattle.std.specs.Prelude.{◌≡◌, ◌≤◌, option_copied, None, Some, IfOk, IfErr, OnOk};
+ghost use Rattle.std.specs.Prelude.{◌≡◌, ◌≢◌, ◌≤◌, option_copied, None, Some, Err, IfOk, IfErr, OnOk};
 ghost use Rattle.std.specs.Option.{ForSome};
 ghost use Rattle.arrayvec.specs.ArrayVec.{array_vec_len};
 ghost use Rattle.well.specs.Well.{filled};
 ghost use Rattle.problem.specs.Problem.{IsFit, needed_of};
 ghost use Rattle.enumerate.specs.Items.{items_of};
-ghost use Rattle.pc_problem.specs.Problem.{IsProblemOf};
+ghost use Rattle.pc_outside.specs.declared.answers.Refused.{Refused};
+ghost use Rattle.pc_settings.specs.Request.{IsInRange};
 ghost use Rattle.pc_settings.specs.Views.{path_view};
-ghost use Rattle.pc_path.specs.Faults.{after_fault, listing_fault};
+ghost use Rattle.pc_source.specs.FieldText.{field_needs};
+ghost use Rattle.pc_source.specs.Had.{HasProblem, IsRefusedInput};
+ghost use Rattle.pc_source.specs.Task.{nothing};
+ghost use Rattle.pc_path.specs.Faults.{after_fault, listing_fault, path_fault};
 ghost use Rattle.pc_path.specs.Output.{IsGiven};
 
 use pc_faults::Fault;
-use pc_problem::problem_of;
+use pc_outside::Refused;
 use pc_settings::PathSettings;
-use problem::{Problem, Sequence};
+use pc_source::{Dash, problem_asked};
+use problem::{Problem, Sequence, needed};
 use sequence_text::sequence_in;
-use well::Well;
+use std::alloc::Global;
 
 /// What `path` lists: the solutions of a problem, or only those above a given sequence.
 #[derive(Drop)]
@@ -40,23 +45,32 @@ fn given(needed: u8, text: Option<&str>) -> Result<Option<Sequence>, Fault>
     }
 }
 
-/// What the settings ask to list for a field. A refusal is the first fault of what they name.
+/// What the settings ask to list. `bytes` are those of the source. A refusal is the first fault of what they name, or
+/// that memory ran out, which only a fumen text takes.
 #[tactic(auto, unfolding(crate::specs::Faults::listing_fault))]
-pub fn listing_of(well: Well, settings: &PathSettings<'_>) -> Result<Listing, Fault>
-    requires least { 1 ≤ settings.now.common.height }
-    requires most { settings.now.common.height ≤ 8 }
-    ensures fault { IfErr result (λ fault. listing_fault (path_view settings.now) (filled well) ≡ Some fault) }
-    ensures none { OnOk result (listing_fault (path_view settings.now) (filled well) ≡ None) }
-    ensures problem { IfOk result (λ listing. IsProblemOf (path_view settings.now).common
-        (filled well) listing.problem) }
+pub fn listing_of(
+    alloc: Global,
+    settings: &PathSettings<'_>,
+    bytes: &[u8],
+) -> Result<Listing, Refused<Fault>>
+    requires { IsInRange (path_view settings.now).common }
+    ensures problem { IfOk result (λ listing. HasProblem (path_view settings.now).common bytes.now listing.problem) }
     ensures fit { IfOk result (λ listing. IsFit listing.problem) }
+    ensures none { IfOk result (λ listing.
+        listing_fault (path_view settings.now) (filled listing.problem.well) ≡ None) }
     ensures after { IfOk result (λ listing.
         IsGiven (needed_of listing.problem) (path_view settings.now).after (items_of listing.after)) }
     ensures len { IfOk result (λ listing.
         ForSome listing.after (λ sequence. array_vec_len sequence ≡ needed_of listing.problem)) }
+    ensures refused { IfErr result (λ refused. IsRefusedInput (path_fault (path_view settings.now) bytes.now) refused) }
+    ensures memory { result ≡ Err Refused.NoMemory → field_needs (path_view settings.now).common.field ≢ nothing }
 {
-    let problem = problem_of(well, &settings.common)?;
-    let needed = well.empties_below(settings.common.height) / 4;
-    let after = given(needed, settings.after)?;
-    Ok(Listing { problem, after })
+    let problem = match problem_asked(alloc, &settings.common, Dash::Source(bytes)) {
+        Ok(problem) => problem,
+        Err(refused) => return Err(refused),
+    };
+    match given(needed(&problem), settings.after) {
+        Ok(after) => Ok(Listing { problem, after }),
+        Err(fault) => Err(Refused::Fault(fault)),
+    }
 }

@@ -1,6 +1,5 @@
-// The command `path`: the field, and then a line for each solution.
-ghost use Rattle.std.specs.Prelude.{◌≡◌, ◌-◌, ◌<◌, ◌≤◌, ◌++◌, [], Err, None, length, drop, IsOk, OnOk, OnErr};
-ghost use Rattle.well.specs.Well.{filled};
+// The command `path`: what it lists, and then a line for each solution.
+ghost use Rattle.std.specs.Prelude.{◌≡◌, ◌-◌, ◌<◌, ◌≤◌, ◌++◌, Err, None, length, drop, IsOk, OnOk, OnErr};
 ghost use Rattle.pc_outside.specs.Writes.{WritesAll};
 ghost use Rattle.enumerate.specs.ViewOf.{after_given, solutions, work};
 ghost use Rattle.enumerate.specs.Work.{pairs};
@@ -11,7 +10,7 @@ ghost use Rattle.pc_settings.specs.Views.{path_view};
 ghost use Rattle.pc_source.specs.Ends.{CommandEnds};
 ghost use Rattle.pc_source.specs.Sink.{sink_change};
 ghost use Rattle.pc_path.specs.Output.{stats_form};
-ghost use Rattle.pc_path.specs.PathTask.{listing_task, path_task};
+ghost use Rattle.pc_path.specs.PathTask.{path_task};
 ghost use Rattle.pc_path.specs.Work.{IsSearchOf, StoppedBefore};
 ghost use Rattle.pc_path.specs.Writer.{asked_of, form_of};
 
@@ -22,13 +21,11 @@ use line_writing::WriteFault;
 use pc_faults::Status;
 use pc_outside::Sink;
 use pc_settings::{Format, PathSettings};
-use pc_source::{Dash, field};
 use problem::Problem;
 use reach::Steps;
 use report::{Tail, write_floods, write_tail};
 use std::alloc::Global;
 use std::sync::ledger::Ledger;
-use well::Well;
 
 /// Writes the solutions that are still to come, up to the limit, and the line that ends the report.
 fn write_report<O: Sink, L: Ledger>(
@@ -112,29 +109,9 @@ pub fn run_path<O: Sink, L: Ledger>(
         (sink_change O.counts_failures_alone (O.written out.old) (O.written out.new)
         (O.faults out.old) (O.faults out.new)) (out.new ≡ out.old) steps.old steps.new result }
 {
-    let dash = Dash::Source(bytes);
-    match field(alloc, settings.common.field, settings.common.page, dash) {
-        Ok(well) => list_clears(alloc, well, settings, out, steps),
-        Err(refused) => Status::from(refused),
-    }
-}
-
-/// Lists the sequences that clear a field, as the settings ask for.
-fn list_clears<O: Sink, L: Ledger>(
-    alloc: Global,
-    well: Well,
-    settings: &PathSettings<'_>,
-    out: &mut O,
-    steps: &mut Steps<L>,
-) -> Status
-    requires { IsInRange (path_view settings.now).common }
-    ensures { CommandEnds (listing_task (path_view settings.now) (filled well)) []
-        (sink_change O.counts_failures_alone (O.written out.old) (O.written out.new)
-        (O.faults out.old) (O.faults out.new)) (out.new ≡ out.old) steps.old steps.new result }
-{
-    let listing = match listing_of(well, settings) {
+    let listing = match listing_of(alloc, settings, bytes) {
         Ok(listing) => listing,
-        Err(fault) => return Status::Input(fault),
+        Err(refused) => return Status::from(refused),
     };
     let problem = listing.problem;
     let mut search = match Search::start(alloc, problem, listing.after) {

@@ -10,8 +10,8 @@ use Rattle.percent.specs.Good.{Good}
 use Rattle.pc_settings.specs.Request.{FieldRequest, PercentRequest}
 use Rattle.pc_source.specs.FieldTask.{its_field}
 use Rattle.pc_source.proofs.FieldTasks.{one_of_field}
-use Rattle.pc_problem.specs.Problem.{IsProblemOf}
-use Rattle.pc_problem.proofs.CallerLemmas.{same_elements}
+use Rattle.pc_source.specs.Problem.{IsProblemOf}
+use Rattle.pc_source.proofs.CallerLemmas.{same_elements}
 use Rattle.pc_percent.specs.Lines.{percent_form}
 use Rattle.pc_percent.specs.Output.{IsAnsweredFor}
 use Rattle.pc_percent.specs.PercentTask.{asked_task, percent_task}

@@ -2,7 +2,7 @@
 use Rattle.std.specs.Prelude.{ℕ, List, Option}
 use Rattle.pc_faults.specs.declared.fault.Fault.{Fault}
 use Rattle.pc_source.specs.FieldTask.{fault_by_field, its_field}
-use Rattle.pc_problem.specs.Faults.{problem_fault}
+use Rattle.pc_source.specs.ProblemFaults.{problem_fault}
 use Rattle.pc_settings.specs.Request.{PercentRequest}
 
 abbrev pub percent_fault : PercentRequest → List ℕ → Option Fault

@@ -6,7 +6,7 @@ use Rattle.queue_pattern.specs.Pattern.{elements_of}
 use Rattle.queue_pattern.specs.Queues.{queues}
 use Rattle.problem.specs.declared.problem.Problem.{Problem}
 use Rattle.percent.specs.Good.{Good}
-use Rattle.pc_problem.specs.Problem.{IsProblemOf}
+use Rattle.pc_source.specs.Problem.{IsProblemOf}
 use Rattle.pc_settings.specs.Request.{PercentRequest}
 use Rattle.pc_percent.specs.Lines.{percent_form}
 

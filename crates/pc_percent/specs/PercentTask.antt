@@ -5,7 +5,7 @@ use Rattle.pc_settings.specs.Request.{PercentRequest}
 use Rattle.pc_source.specs.FieldTask.{field_task, its_field}
 use Rattle.pc_source.specs.Task.{Task, nothing}
 use Rattle.pc_source.specs.Work.{any_floods}
-use Rattle.pc_problem.specs.Faults.{problem_fault}
+use Rattle.pc_source.specs.ProblemFaults.{problem_fault}
 use Rattle.pc_percent.specs.Output.{IsAnsweredFor}
 
 -- what is left of it once its field is had

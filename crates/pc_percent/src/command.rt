@@ -1,6 +1,5 @@
-// The command `percent`: the field, the answers for all queues, and then the lines.
-ghost use Rattle.std.specs.Prelude.{◌≡◌, ◌-◌, ◌<◌, []};
-ghost use Rattle.well.specs.Well.{filled};
+// The command `percent`: the problem, the answers for all queues, and then the lines.
+ghost use Rattle.std.specs.Prelude.{◌≡◌, ◌-◌, ◌<◌};
 ghost use Rattle.pc_outside.specs.Counts.{HasCause};
 ghost use Rattle.pc_outside.specs.Writes.{WritesAll};
 ghost use Rattle.queue_pattern.specs.Pattern.{elements_of};
@@ -13,21 +12,19 @@ ghost use Rattle.pc_settings.specs.Views.{percent_view};
 ghost use Rattle.pc_source.specs.Ends.{CommandEnds};
 ghost use Rattle.pc_source.specs.Sink.{sink_change};
 ghost use Rattle.pc_percent.specs.Lines.{failed_lines, percent_form};
-ghost use Rattle.pc_percent.specs.PercentTask.{asked_task, percent_task};
+ghost use Rattle.pc_percent.specs.PercentTask.{percent_task};
 
 use crate::lines::write_failed;
 use pc_faults::Status;
 use pc_outside::{Failed, Sink};
-use pc_problem::problem_of;
 use pc_settings::PercentSettings;
-use pc_source::{Dash, field};
+use pc_source::{Dash, problem_asked};
 use percent::Answers;
 use problem::Problem;
 use queue_lines::write_numbers;
 use reach::Steps;
 use std::alloc::Global;
 use std::sync::ledger::Ledger;
-use well::Well;
 
 /// Writes the lines of the first queues without a perfect clear, up to the limit.
 fn write_all_failed<O: Sink>(
@@ -83,29 +80,9 @@ pub fn run_percent<O: Sink, L: Ledger>(
         (sink_change O.counts_failures_alone (O.written out.old) (O.written out.new)
         (O.faults out.old) (O.faults out.new)) (out.new ≡ out.old) steps.old steps.new result }
 {
-    let dash = Dash::Source(bytes);
-    match field(alloc, settings.common.field, settings.common.page, dash) {
-        Ok(well) => answer_all(alloc, well, settings, out, steps),
-        Err(refused) => Status::from(refused),
-    }
-}
-
-/// Finds and writes the answers for all queues and this field.
-fn answer_all<O: Sink, L: Ledger>(
-    alloc: Global,
-    well: Well,
-    settings: &PercentSettings<'_>,
-    out: &mut O,
-    steps: &mut Steps<L>,
-) -> Status
-    requires { IsInRange (percent_view settings.now).common }
-    ensures { CommandEnds (asked_task (percent_view settings.now) (filled well)) []
-        (sink_change O.counts_failures_alone (O.written out.old) (O.written out.new)
-        (O.faults out.old) (O.faults out.new)) (out.new ≡ out.old) steps.old steps.new result }
-{
-    let problem = match problem_of(well, &settings.common) {
+    let problem = match problem_asked(alloc, &settings.common, Dash::Source(bytes)) {
         Ok(problem) => problem,
-        Err(fault) => return Status::Input(fault),
+        Err(refused) => return Status::from(refused),
     };
     let answers = match Answers::new(alloc, &problem, steps) {
         Ok(answers) => answers,

@@ -6,7 +6,7 @@ use Rattle.placement_numbers.specs.Numbers.{AreNumbersOf}
 use Rattle.problem.specs.declared.problem.Problem.{Problem}
 use Rattle.problem.specs.Problem.{needed_of}
 use Rattle.pc_source.specs.FieldText.{IsFieldOf}
-use Rattle.pc_problem.specs.Problem.{IsProblemOf}
+use Rattle.pc_source.specs.Problem.{IsProblemOf}
 use Rattle.pc_settings.specs.Request.{PathRequest}
 use Rattle.pc_path.specs.Faults.{path_fault}
 use Rattle.pc_path.specs.Output.{IsGiven}

@@ -21,7 +21,6 @@ use pc_faults::Fault;
 use pc_outside::Refused;
 use pc_path::{Listing, listing_of};
 use pc_settings::PathSettings;
-use pc_source::{Dash, field};
 use placement_numbers::sequence_in;
 use problem::{Sequence, needed};
 use reach::Steps;
@@ -53,15 +52,10 @@ fn asked(alloc: Global, settings: &PathSettings<'_>, bytes: &[u8]) -> Result<Lis
     ensures refused { IfErr result
         (λ refusal. IsFaultOrMemory (path_fault (path_view settings.now) bytes.now) refusal) }
 {
-    let dash = Dash::Source(bytes);
-    let well = match field(alloc, settings.common.field, settings.common.page, dash) {
-        Ok(well) => well,
-        Err(Refused::Fault(fault)) => return Err(Refusal::Input(fault)),
-        Err(Refused::NoMemory) => return Err(Refusal::NoMemory),
-    };
-    match listing_of(well, settings) {
+    match listing_of(alloc, settings, bytes) {
         Ok(listing) => Ok(listing),
-        Err(fault) => Err(Refusal::Input(fault)),
+        Err(Refused::Fault(fault)) => Err(Refusal::Input(fault)),
+        Err(Refused::NoMemory) => Err(Refusal::NoMemory),
     }
 }
 

@@ -1,4 +1,4 @@
--- What crates above cite: faults of texts, fields, and what calls answer and add to the counter of floods.
+-- What crates above cite: faults of texts, fields, problems, and what calls answer and add to the counter of floods.
 use Rattle.std.proofs.Common.{◌≡◌, ◌≢◌, ℕ, ◌-◌, ◌<◌, ◌≤◌, length, List, Bool, true, false, Option, Some, None, Result, Ok, Err, refl, sym, subst, ap, arith, inl}
 use Rattle.std.proofs.lemmas.Bool.{lt-ltb, le-ltb}
 use Rattle.lane_board.specs.Field.{Field}
@@ -24,7 +24,8 @@ use Rattle.pc_source.specs.Sink.{SinkChange}
 use Rattle.pc_source.specs.Task.{Needs, Task, first_fault, is_source, memory, most_bytes, nothing, source_bytes, source_fault}
 use Rattle.pc_source.specs.Work.{Works}
 pub use Rattle.pc_source.proofs.FieldLaws.{field_cells, one_field}
-pub use Rattle.pc_source.proofs.InnerFaults.{inner_field, inner_text}
+pub use Rattle.pc_source.proofs.InnerFaults.{inner_field, inner_full_row, inner_pattern, inner_problem, inner_text}
+pub use Rattle.pc_source.proofs.SameProblems.{same_elements, same_table}
 pub use Rattle.pc_source.proofs.TextFaults.{text_faulty, text_page, text_reads, text_refused}
 
 refusal_answers : (task : Task) (bytes : List ℕ) (sink : SinkChange) (Kept : Type 0) (floods : ℕ) (r : Refused Fault) → Kept → (r ≡ refused.NoMemory → task.needs ≢ nothing)

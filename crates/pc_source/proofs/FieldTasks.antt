@@ -1,5 +1,5 @@
 -- A command about a field: it ends by what refuses the field, or as the rest.
-use Rattle.std.proofs.Common.{◌≡◌, ◌≢◌, ◌∙◌, ℕ, ◌-◌, List, [], Bool, true, Some, ap, subst, inl, inr}
+use Rattle.std.proofs.Common.{◌≡◌, ◌≢◌, ◌∙◌, ℕ, ◌-◌, List, [], Bool, true, subst, inl, inr}
 use Rattle.lane_board.specs.Field.{Field}
 use Rattle.pc_outside.specs.declared.answers.Refused.{Refused}
 use Rattle.pc_outside.specs.declared.answers.Refused.TheVariants as refused
@@ -8,7 +8,7 @@ use Rattle.pc_faults.specs.declared.status.Status.{Status}
 use Rattle.pc_faults.specs.declared.status.Status.TheVariants.{Done, Input, SourceFault, SinkFault, NoMemory}
 use Rattle.pc_faults.specs.Codes.{refused_status}
 use Rattle.pc_faults.specs.Inner.{IsInner}
-use Rattle.pc_faults.proofs.CallerLemmas.{first_stops, inner_first, second_left}
+use Rattle.pc_faults.proofs.CallerLemmas.{inner_first}
 use Rattle.pc_settings.specs.Request.{FieldText}
 use Rattle.pc_source.specs.Answers.{IsAnswered}
 use Rattle.pc_source.specs.Ends.{CommandEnds}
@@ -20,36 +20,25 @@ use Rattle.pc_source.specs.Task.{Task, nothing}
 use Rattle.pc_source.specs.Work.{Works}
 use Rattle.pc_source.proofs.CallerLemmas.{refusal_before}
 use Rattle.pc_source.proofs.CommandEnds.{ends_refused}
-use Rattle.pc_source.proofs.FieldLaws.{field_cells, one_field}
+use Rattle.pc_source.proofs.FieldFaults.{field_first, had_fault}
+use Rattle.pc_source.proofs.FieldLaws.{one_field}
 use Rattle.pc_source.proofs.InnerFaults.{inner_field}
 
 module _ (source : SourceOf) (text : FieldText) (page : ℕ) (memory_first : Bool) (rest : Field → Task) (bytes : List ℕ) where
   abbrev whole : Task
   whole = field_task source text page memory_first rest
 
-  -- or it is refused
-  pub field_first : (f : Fault) → field_fault text page (dash_text source bytes) ≡ Some f → whole.fault bytes ≡ Some f
-  unfolding fault_by_field
-  field_first f is = first_stops (field_fault text page (dash_text source bytes)) _ f is
-
-  -- the field is had
-  pub had_fault : (F : Field) → HasField text page (dash_text source bytes) F → whole.fault bytes ≡ (rest F).fault (rest_bytes source bytes)
-  unfolding fault_by_field
-  had_fault F has =
-      second_left (field_fault text page (dash_text source bytes)) ((rest (cells_asked text page (dash_text source bytes))).fault (rest_bytes source bytes)) has.none
-      ∙ ap (λ F. (rest F).fault (rest_bytes source bytes)) (field_cells text page (dash_text source bytes) F has.is)
-
   module _ (sink : SinkChange) (Kept : Type 0) (before now : ℕ) where
     -- the field is not had
     pub field_refused : (r : Refused Fault) (status : Status) → status ≡ refused_status r → Kept → now ≡ before → (r ≡ refused.NoMemory → asked_needs source text ≢ nothing)
         → IsRefusedInput (field_fault text page (dash_text source bytes)) r → CommandEnds whole bytes sink Kept before now status
     field_refused r status same kept idle needed is = ends_refused whole bytes sink Kept before now r status same kept idle needed
-        (refusal_before (field_fault text page (dash_text source bytes)) (whole.fault bytes) r field_first is)
+        (refusal_before (field_fault text page (dash_text source bytes)) (whole.fault bytes) r (field_first source text page (λ F. (rest F).fault) bytes) is)
 
     module _ (F : Field) (has : HasField text page (dash_text source bytes) F) (needs : asked_needs source text ≡ nothing → (rest F).needs ≡ nothing) (first : memory_first ≡ true → (rest F).memory_first ≡ true)
         (floods : ℕ) where
       same : whole.fault bytes ≡ (rest F).fault (rest_bytes source bytes)
-      same = had_fault F has
+      same = had_fault source text page (λ F. (rest F).fault) bytes F has
 
       of_field : (output : List ℕ) → (rest F).IsOutput (rest_bytes source bytes) floods output → whole.IsOutput bytes floods output
       of_field output is = record { field = F; asked = has.is; holds = is }

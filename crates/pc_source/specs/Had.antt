@@ -3,6 +3,8 @@ use Rattle.std.specs.Prelude.{◌≡◌, ℕ, List, IsTrue, All, Option, Some, N
 use Rattle.std.specs.Option.{ForSome}
 use Rattle.lane_board.specs.Field.{Field}
 use Rattle.srs.specs.Cells.{is_inside_of}
+use Rattle.well.specs.Well.{filled}
+use Rattle.problem.specs.declared.problem.Problem.{Problem}
 use Rattle.pc_outside.specs.declared.answers.Refused.{Refused}
 use Rattle.pc_outside.specs.declared.answers.Refused.TheVariants as refused
 use Rattle.fumen_digits.specs.declared.dialect.Dialect.{Dialect}
@@ -13,9 +15,11 @@ use Rattle.pc_faults.specs.declared.fault.Fault.{Fault}
 use Rattle.pc_faults.specs.declared.fault.Fault.TheVariants.{SourceTooLong}
 use Rattle.pc_faults.specs.declared.status.Status.{Status}
 use Rattle.pc_faults.specs.declared.status.Status.TheVariants.{Input, SourceFault, NoMemory}
-use Rattle.pc_settings.specs.Request.{FieldText}
+use Rattle.pc_settings.specs.Request.{FieldRequest, FieldText}
 use Rattle.pc_source.specs.FieldText.{IsFumenField, IsFieldOf, dash}
 use Rattle.pc_source.specs.Faults.{field_fault, text_fault}
+use Rattle.pc_source.specs.Problem.{IsProblemOf}
+use Rattle.pc_source.specs.ProblemFaults.{problem_fault}
 use Rattle.pc_source.specs.declared.field_text.Dash.{Dash}
 use Rattle.pc_source.specs.declared.field_text.Dash.TheVariants.{Source, Itself}
 
@@ -55,3 +59,10 @@ dash_view Itself = dash
 pub record HasField (field : FieldText) (number : ℕ) (meant : List ℕ) (F : Field) : Type 0 where
   pub none : field_fault field number meant ≡ None
   pub is : IsFieldOf field number meant F
+
+-- the problem that is asked for is had, where `-` stands for the text `meant`: neither the text of its field nor what
+-- is asked about this field has a fault
+pub record HasProblem (request : FieldRequest) (meant : List ℕ) (problem : Problem) : Type 0 where
+  pub field : HasField request.field request.page meant (filled problem.well)
+  pub none : problem_fault request (filled problem.well) ≡ None
+  pub named : IsProblemOf request (filled problem.well) problem

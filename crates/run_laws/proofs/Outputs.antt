@@ -49,7 +49,7 @@ use Rattle.pc_faults.specs.declared.fault.Fault.TheVariants as faults
 use Rattle.pc_settings.specs.Request.{ComboRequest, FieldRequest, FieldText, IsInRange, PathRequest, PercentRequest}
 use Rattle.pc_source.specs.Faults.{cells_asked, field_fault, page_fault, text_fault}
 use Rattle.pc_source.specs.FieldText.{IsFieldOf}
-use Rattle.pc_problem.specs.Faults.{full_row_fault, pattern_fault, problem_fault}
+use Rattle.pc_source.specs.ProblemFaults.{full_row_fault, pattern_fault, problem_fault}
 use Rattle.pc_path.specs.Faults.{after_fault, listing_fault, path_fault}
 use Rattle.pc_source.specs.FieldTask.{SourceOf, fault_by_field, field_task, its_field, its_rest, rest_bytes, dash_text}
 use Rattle.pc_source.specs.Task.{Task}

@@ -23,8 +23,8 @@ use Rattle.pc_faults.specs.FirstFault.{first_of_these}
 use Rattle.pc_settings.specs.Request.{FieldRequest, FieldText, IsInRange, fumen_text, rows_text}
 use Rattle.pc_source.specs.Faults.{field_fault}
 use Rattle.pc_source.specs.FieldText.{IsFieldOf, page_cells}
-use Rattle.pc_problem.specs.Faults as asked
-use Rattle.pc_problem.specs.Problem.{IsProblemOf}
+use Rattle.pc_source.specs.ProblemFaults as asked
+use Rattle.pc_source.specs.Problem.{IsProblemOf}
 use Rattle.run_laws.proofs.Tables.{rules-made}
 use Rattle.run_laws.proofs.Wells.{LiesInWell, well-made}
 

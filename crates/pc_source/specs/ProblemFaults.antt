@@ -1,4 +1,5 @@
--- The first fault of what is asked about a field.
+-- The first fault of a problem that is asked for: that of the text of its field, and then that of what is asked about
+-- the field.
 use Rattle.std.specs.Prelude.{ℕ, ◌+◌, ◌/◌, ◌%◌, ◌&&◌, ◌==◌, nat_lt, if◌then◌else◌, List, [], ◌∷◌, Option, Some, None, option_map, Result, Ok, Err}
 use Rattle.lane_board.specs.Field.{Field}
 use Rattle.well.specs.Counts.{empties_below, lowest_full, lowest_filled_from}
@@ -11,6 +12,7 @@ use Rattle.pc_faults.specs.declared.fault.Fault.{Fault}
 use Rattle.pc_faults.specs.declared.fault.Fault.TheVariants as faults
 use Rattle.pc_faults.specs.FirstFault.{first_of_these}
 use Rattle.pc_settings.specs.Request.{FieldRequest}
+use Rattle.pc_source.specs.FieldTask.{fault_by_field, its_field}
 
 -- the lowest full row
 abbrev pub full_row_fault : Field → Option Fault
@@ -49,3 +51,7 @@ problem_fault request F = first_of_these (
     ∷ pattern_fault (elements_asked request)
     ∷ pieces_fault (empties_below F request.height) (held_count request.hold request.held) (elements_asked request)
     ∷ [])
+
+-- the text of the field, where `-` stands for the text `meant`, and then what is asked about the field
+abbrev pub request_fault : FieldRequest → (meant : List ℕ) → Option Fault
+request_fault request = fault_by_field its_field request.field request.page (λ F bytes. problem_fault request F)

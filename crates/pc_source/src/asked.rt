@@ -1,19 +1,27 @@
-// The problem that the settings name for a field.
-ghost use Rattle.std.specs.Prelude.{◌≡◌, ◌≤◌, None, Some, Ok, IfOk, IfErr, IsSome, OnOk};
+// The problem that the settings name, for the field that their words give.
+ghost use Rattle.std.specs.Prelude.{◌≡◌, ◌≢◌, ◌≤◌, None, Some, Ok, Err, IfOk, IfErr, IsSome, OnOk};
 ghost use Rattle.well.specs.Well.{filled};
 ghost use Rattle.well.specs.Counts.{lowest_full};
 ghost use Rattle.queue_pattern.specs.Grammar.{elements, limited};
 ghost use Rattle.queue_pattern.specs.Pattern.{elements_of};
 ghost use Rattle.problem.specs.Problem.{IsFit};
+ghost use Rattle.pc_outside.specs.declared.answers.Refused.{Refused};
+ghost use Rattle.pc_settings.specs.Request.{IsInRange};
 ghost use Rattle.pc_settings.specs.Views.{field_view};
-ghost use Rattle.pc_problem.specs.Faults.{filled_rows_fault, full_row_fault, pattern_fault, problem_fault};
-ghost use Rattle.pc_problem.specs.Problem.{IsProblemOf};
-ghost use Rattle.pc_problem.specs.Told;
+ghost use Rattle.pc_source.specs.FieldText.{HasPrefix, field_needs};
+ghost use Rattle.pc_source.specs.Had.{HasProblem, IsRefusedInput, dash_view};
+ghost use Rattle.pc_source.specs.Problem.{IsProblemOf};
+ghost use Rattle.pc_source.specs.ProblemFaults.{filled_rows_fault, full_row_fault, pattern_fault, problem_fault, request_fault};
+ghost use Rattle.pc_source.specs.Task.{nothing};
+ghost use Rattle.pc_source.specs.Told;
 
+use crate::field_text::{Dash, field};
 use pc_faults::Fault;
+use pc_outside::Refused;
 use pc_settings::FieldSettings;
 use problem::{Problem, ProblemFault, check_field};
 use queue_pattern::Pattern;
+use std::alloc::Global;
 use well::Well;
 
 /// The program's fault for the fault of a problem whose height is 1 to 8.
@@ -30,7 +38,7 @@ fn told(fault: ProblemFault) -> Fault
 }
 
 /// Checks that the field has no cell at or above the height and no full row.
-#[tactic(auto, unfolding(crate::specs::Faults::filled_rows_fault))]
+#[tactic(auto, unfolding(crate::specs::ProblemFaults::filled_rows_fault))]
 fn rows(well: &Well, height: u8) -> Result<(), Fault>
     requires least { 1 ≤ height }
     requires most { height ≤ 8 }
@@ -68,8 +76,8 @@ pub fn pattern_of(text: &str) -> Result<Pattern, Fault>
 
 /// The problem that the settings name for a field. A refusal is the first fault of these: a cell at or above the
 /// height, a full row, the pattern, too few pieces at hand.
-#[tactic(auto, unfolding(crate::specs::Faults::problem_fault))]
-pub fn problem_of(well: Well, settings: &FieldSettings<'_>) -> Result<Problem, Fault>
+#[tactic(auto, unfolding(crate::specs::ProblemFaults::problem_fault))]
+fn problem_of(well: Well, settings: &FieldSettings<'_>) -> Result<Problem, Fault>
     requires least { 1 ≤ settings.now.height }
     requires most { settings.now.height ≤ 8 }
     ensures fault { IfErr result (λ fault. problem_fault (field_view settings.now) (filled well) ≡ Some fault) }
@@ -91,5 +99,31 @@ pub fn problem_of(well: Well, settings: &FieldSettings<'_>) -> Result<Problem, F
     match problem {
         Ok(problem) => Ok(problem),
         Err(fault) => Err(told(fault)),
+    }
+}
+
+/// The problem that the settings name for the field that their words give. A refusal is the first fault of these: the
+/// text of the field, a cell at or above the height, a full row, the pattern, too few pieces at hand. Or memory ran
+/// out, which only a fumen text takes.
+pub fn problem_asked(
+    alloc: Global,
+    settings: &FieldSettings<'_>,
+    dash: Dash<'_>,
+) -> Result<Problem, Refused<Fault>>
+    requires { IsInRange (field_view settings.now) }
+    ensures problem { IfOk result (λ problem. HasProblem (field_view settings.now) (dash_view dash.entry) problem) }
+    ensures fit { IfOk result (λ problem. IsFit problem) }
+    ensures refused { IfErr result
+        (λ refused. IsRefusedInput (request_fault (field_view settings.now) (dash_view dash.entry)) refused) }
+    ensures memory { result ≡ Err Refused.NoMemory → field_needs (field_view settings.now).field ≢ nothing }
+    ensures prefix { result ≡ Err Refused.NoMemory → HasPrefix (field_view settings.now).field (dash_view dash.entry) }
+{
+    let well = match field(alloc, settings.field, settings.page, dash) {
+        Ok(well) => well,
+        Err(refused) => return Err(refused),
+    };
+    match problem_of(well, settings) {
+        Ok(problem) => Ok(problem),
+        Err(fault) => Err(Refused::Fault(fault)),
     }
 }

@@ -6,7 +6,7 @@ use Rattle.well.specs.Well.{filled}
 use Rattle.queue_pattern.specs.Pattern.{elements_of}
 use Rattle.problem.specs.declared.problem.Problem.{Problem}
 use Rattle.pc_settings.specs.Request.{FieldRequest}
-use Rattle.pc_problem.specs.Faults.{elements_asked}
+use Rattle.pc_source.specs.ProblemFaults.{elements_asked}
 
 -- this field, the height, the queues, the held piece and the rules that are asked for
 pub record IsProblemOf (request : FieldRequest) (F : Field) (problem : Problem) : Type 0 where

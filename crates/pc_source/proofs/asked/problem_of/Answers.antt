@@ -2,8 +2,8 @@
 use Rattle.std.proofs.Common.{refl}
 use Rattle.problem.specs.declared.problem.Problem.{Problem}
 use Rattle.pc_settings.specs.Views.{field_view}
-use Rattle.pc_problem.proofs.ToldFaults.{told-first}
-use Rattle.pc_problem.proofs.asked.problem_of.Goals as goal
+use Rattle.pc_source.proofs.ToldFaults.{told-first}
+use Rattle.pc_source.proofs.asked.problem_of.Goals as goal
 
 pub returns-in-Err-clause-fault : goal.returns-in-Err-clause-fault
 returns-in-Err-clause-fault c =

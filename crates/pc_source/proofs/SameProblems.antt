@@ -1,5 +1,4 @@
--- What crates above cite: what is asked about a field has no fault of the words, and none that the source is too long;
--- and its queues and its table of offsets are determined.
+-- The queues and the table of offsets of what is asked about a field are determined.
 use Rattle.std.proofs.Common.{◌≡◌, ◌∙◌, List, Result, Ok, sym}
 use Rattle.lane_board.specs.Field.{Field}
 use Rattle.srs.specs.Kick.{Table}
@@ -10,8 +9,7 @@ use Rattle.queue_pattern.specs.declared.fault.PatternFault.{PatternFault}
 use Rattle.queue_pattern.specs.Pattern.{elements_of}
 use Rattle.problem.specs.declared.problem.Problem.{Problem}
 use Rattle.pc_settings.specs.Request.{FieldRequest}
-use Rattle.pc_problem.specs.Problem.{IsProblemOf}
-pub use Rattle.pc_problem.proofs.InnerFaults.{inner_full_row, inner_pattern, inner_problem}
+use Rattle.pc_source.specs.Problem.{IsProblemOf}
 
 same_ok : (xs ys : List Element) → ◌≡◌ {A = Result (List Element) PatternFault} (Ok xs) (Ok ys) → xs ≡ ys
 same_ok xs ys e = cc

@@ -15,8 +15,8 @@ use Rattle.pc_faults.specs.declared.fault.Fault.{Fault}
 use Rattle.pc_faults.specs.declared.fault.Fault.TheVariants as faults
 use Rattle.pc_faults.specs.FirstFault.{first_of_these}
 use Rattle.pc_settings.specs.Request.{FieldRequest}
-use Rattle.pc_problem.specs.Faults.{elements_asked, pattern_fault, pieces_fault, problem_fault, filled_rows_fault, too_few}
-use Rattle.pc_problem.specs.Told.{told}
+use Rattle.pc_source.specs.ProblemFaults.{elements_asked, pattern_fault, pieces_fault, problem_fault, filled_rows_fault, too_few}
+use Rattle.pc_source.specs.Told.{told}
 
 third : (a b c : Option Fault) (fault : Fault) → a ≡ None → b ≡ None → c ≡ Some fault → first_of_these (a ∷ b ∷ c ∷ []) ≡ Some fault
 third None None (Some one) fault x y e = e

@@ -1,4 +1,0 @@
--- Lemmas of this crate.
-pub mod CallerLemmas
-mod InnerFaults
-mod ToldFaults
