@@ -26,6 +26,13 @@ impl TilingStore {
         TilingStore::with_places(alloc, PLACES)
     }
 
+    /// The same, but a store that keeps nothing if there is not enough memory.
+    pub fn within_memory(alloc: Global) -> TilingStore {
+        TilingStore {
+            decided: FactTable::within_memory(alloc, PLACES),
+        }
+    }
+
     /// An empty store that keeps this many questions, best a power of two. `NoMemory` if there is not enough memory.
     pub fn with_places(alloc: Global, places: usize) -> Result<TilingStore, NoMemory> {
         let decided = FactTable::new(alloc, places)?;

@@ -115,12 +115,12 @@ fn fills(tilings: &mut TilingStore, cells: &Empties, near: u8, counts: &Counts) 
 }
 
 impl FitMemory {
-    /// An empty memory. `NoMemory` if there is not enough memory for the tilings.
-    pub fn new(alloc: Global) -> Result<FitMemory, NoMemory> {
-        Ok(FitMemory {
-            tilings: TilingStore::new(alloc)?,
+    /// An empty memory. What there is not enough memory for is not remembered.
+    pub fn new(alloc: Global) -> FitMemory {
+        FitMemory {
+            tilings: TilingStore::within_memory(alloc),
             verdicts: FactTable::within_memory(alloc, VERDICTS),
-        })
+        }
     }
 
     /// Whether pieces with these counts may fill the cells, which have this hash. The search begins at the side nearer

@@ -80,17 +80,17 @@ impl Kept {
 
     /// A store for this many positions, best a power of two, without answers. If there is not enough memory for them,
     /// it keeps none.
-    pub fn new(alloc: Global, game: Game, room: usize) -> Result<Kept, NoMemory>
-        ensures { IfOk result (λ kept. kept.game ≡ game) }
+    pub fn new(alloc: Global, game: Game, room: usize) -> Kept
+        ensures { result.game ≡ game }
     {
-        Ok(Kept {
+        Kept {
             game,
             flood: FloodRules::new(&game.rules),
-            fits: FitMemory::new(alloc)?,
+            fits: FitMemory::new(alloc),
             lister: Lister::new(alloc),
             slots: FactTable::within_memory(alloc, room),
             count: 0,
-        })
+        }
     }
 
     /// The hands that are known to be good at a position, and those that are known not to be.

@@ -79,7 +79,7 @@ pub fn good_hands<L: Ledger>(
         return Ok(Vec::new(alloc));
     }
     let left = needed(problem);
-    let mut kept = Kept::new(alloc, game(problem), room_for(hands.len(), left))?;
+    let mut kept = Kept::new(alloc, game(problem), room_for(hands.len(), left));
     let position = first_position(problem);
     let fit = fitting(alloc, &mut kept.fits, &position, left, hands.as_slice())?;
     drop(hands);

@@ -16,12 +16,12 @@ returns-then-empties_below-ne0-clause-members g c = λ hand.
 pub returns-clause-members : goal.returns-clause-members
 returns-clause-members g c =
     let p = c.first_position-position.result in
-    let kept = c.in_ok-kept.kept in
+    let kept = c.new-kept.result in
     IfOk-weaker c.answered_first.result _ _
     (λ v h hand.
     h hand
     ∙ answer-kept c.in_ok-fit.fit.items c.as_slice-2.result.now c.args.hands.items (is_good kept.game (filled p.well) p.rows c.needed-left.result) c.as_slice-2.ensures.value
     (λ hand. c.in_ok-fit.ensures.members kept.game hand ∙ ap (λ l. has l hand && is_good kept.game (filled p.well) p.rows c.needed-left.result hand) c.as_slice.ensures.value) hand
     ∙ (λ i. has c.args.hands.items hand
-    && is_good ((c.in_ok-kept.ensures ∙ c.game.ensures) i) (filled (c.first_position-position.ensures.well i)) (c.first_position-position.ensures.rows i) (c.needed-left.ensures i) hand))
+    && is_good ((c.new-kept.ensures ∙ c.game.ensures) i) (filled (c.first_position-position.ensures.well i)) (c.first_position-position.ensures.rows i) (c.needed-left.ensures i) hand))
     c.answered_first.ensures.members
