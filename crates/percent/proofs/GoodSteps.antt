@@ -16,7 +16,9 @@ use Rattle.number_sets.proofs.CallerLemmas.{has-none}
 use Rattle.percent.specs.declared.game.Game.{Game}
 use Rattle.percent.specs.declared.position.Child.{Child}
 use Rattle.hands.specs.Hands.{allows_hold, takes, with_first, with_second, without_first, without_second}
+use Rattle.percent.specs.declared.position.Position.{Position}
 use Rattle.percent.specs.GoodHands.{is_good, is_good_after, is_good_at}
+use Rattle.percent.specs.Kept.{AreAnswered}
 use Rattle.hands.proofs.CallerLemmas.{first_back, second_back, or_false}
 use Rattle.percent.proofs.GoodLemmas.{good-step}
 
@@ -126,16 +128,18 @@ pub explore-open : (order : List Piece) (game now : Game) (F : Field) (rows left
     → (hand : ℕ) → has asked hand ≡ (has hands hand && not (is_good now F rows (left + 1) hand))
 explore-open order game now F rows left hands asked before after i same state all hand = search (rules, all_tried)
 
--- the others are found
-pub closed-found : (hands asked found : List ℕ) (good : ℕ → Bool) → ((hand : ℕ) → has asked hand ≡ (has hands hand && not (good hand))) → ((hand : ℕ) → has found hand ≡ (has hands hand && not (has asked hand)))
-    → (hand : ℕ) → has found hand ≡ (has hands hand && good hand)
-closed-found hands asked found good asked_is found_is hand = search (rules, taken_back)
-
 not_second : (w t : Bool) → (w && not t) ≡ true → t ≡ false
 not_second w t there = search rules
 
 pub open-bad : (hands asked : List ℕ) (good : ℕ → Bool) → ((hand : ℕ) → has asked hand ≡ (has hands hand && not (good hand))) → (hand : ℕ) → has asked hand ≡ true → good hand ≡ false
 open-bad hands asked good asked_is hand there = not_second (has hands hand) (good hand) (sym (asked_is hand) ∙ there)
+
+-- the answers at a position are those at one that is the same
+pub answers-at : (game : Game) (p q : Position) (n left : ℕ) (hands good bad : List ℕ) → p ≡ q → n ≡ left
+    → AreAnswered game (filled p.well) p.rows n hands good bad → AreAnswered game (filled q.well) q.rows left hands good bad
+answers-at game p q n left hands good bad at same answers =
+    subst (λ n. AreAnswered game (filled q.well) q.rows n hands good bad) same
+    (subst (λ (p : Position). AreAnswered game (filled p.well) p.rows n hands good bad) at answers)
 
 -- ---- one child after the other
 

@@ -1,5 +1,5 @@
 -- Answers that are kept are true.
-use Rattle.std.specs.Prelude.{◌≡◌, ℕ, ◌+◌, true, false, Contains, List, length, sum_by}
+use Rattle.std.specs.Prelude.{◌≡◌, ℕ, ◌+◌, ◌&&◌, not, true, false, Contains, List, length, sum_by}
 use Rattle.lane_board.specs.Field.{Field}
 use Rattle.number_sets.specs.Rising.{IsRising, has}
 use Rattle.well.specs.CellBits.{cells_in_bits}
@@ -25,6 +25,13 @@ pub record Keeps (slots : List Slot) (F : Field) (rows left : ℕ) (found missed
   pub to_come : slot.left ≡ left
   pub good : (hand : ℕ) → has found hand ≡ true → has slot.found.items hand ≡ true
   pub bad : (hand : ℕ) → has missed hand ≡ true → has slot.missed.items hand ≡ true
+
+-- of some hands those that are good with so many rows left and so many placements to come, and those that are not
+pub record AreAnswered (game : Game) (F : Field) (rows left : ℕ) (hands good bad : List ℕ) : Type 0 where
+  pub good_rises : IsRising good
+  pub bad_rises : IsRising bad
+  pub goods : (hand : ℕ) → has good hand ≡ (has hands hand && is_good game F rows left hand)
+  pub bads : (hand : ℕ) → has bad hand ≡ (has hands hand && not (is_good game F rows left hand))
 
 -- how many answers a slot has, and how many there are in all
 unfoldable pub answers_of : Slot → ℕ

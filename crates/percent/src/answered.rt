@@ -4,6 +4,7 @@ ghost use Rattle.number_sets.specs.Rising.{IsRising, has};
 ghost use Rattle.well.specs.Well.{filled};
 ghost use Rattle.percent.specs.Children.{IsChild};
 ghost use Rattle.percent.specs.GoodHands.{is_good, is_good_after};
+ghost use Rattle.percent.specs.Kept.{AreAnswered};
 ghost use Rattle.percent.specs.Marks.{AreIndexes};
 
 use crate::kept::Kept;
@@ -57,31 +58,6 @@ fn less(
     marks.asked_of(alloc, piece, left, &asked, rests)
 }
 
-/// The hands that are good at a position with one placement to come and then `left` more, given those for which no
-/// way was found after all kinds were tried. Both are kept.
-fn closed(
-    alloc: Global,
-    kept: &mut Kept,
-    position: &Position,
-    left: u8,
-    hands: &[u64],
-    missed: &[u64],
-) -> Result<Vec<u64>, NoMemory>
-    requires few { left ≤ 19 }
-    requires rises { IsRising hands.now }
-    requires missed_rises { IsRising missed.now }
-    requires missed { (hand : ℕ) → has missed.now hand ≡ (has hands.now hand
-        && not (is_good kept.old.game (filled position.now.well) position.now.rows (left + 1) hand)) }
-    ensures rises { IfOk result (λ v. IsRising v.items) }
-    ensures members { IfOk result (λ v. (hand : ℕ) → has v.items hand
-        ≡ (has hands.now hand && is_good kept.old.game (filled position.now.well) position.now.rows (left + 1) hand)) }
-    ensures game { kept.new.game ≡ kept.old.game }
-{
-    let found = without(alloc, hands, missed)?;
-    kept.keep(alloc, position, left + 1, found.as_slice(), missed);
-    Ok(found)
-}
-
 /// The hands that are good at the position after a placement, with `left` placements to come.
 #[cycle(search)]
 fn answered<L: Ledger>(
@@ -109,28 +85,52 @@ fn answered<L: Ledger>(
     if hands.is_empty() {
         return Ok(Vec::new(alloc));
     }
-    let hold = kept.game.hold;
     let Some((known, unknown)) = kept.recalled(alloc, &child.position, left, hands)? else {
-        let below = marks_after(alloc, &mut kept.lister, hold, marks, child, left, hands)?;
-        return explored(alloc, kept, &below, left - 1, hands, steps);
+        return searched(alloc, kept, marks, child, left, hands, steps);
     };
     if unknown.is_empty() {
         return Ok(known);
     }
-    let below = marks_after(
-        alloc,
-        &mut kept.lister,
-        hold,
-        marks,
-        child,
-        left,
-        unknown.as_slice(),
-    )?;
-    let found = explored(alloc, kept, &below, left - 1, unknown.as_slice(), steps)?;
+    let found = searched(alloc, kept, marks, child, left, unknown.as_slice(), steps)?;
     if known.is_empty() {
         return Ok(found);
     }
     merged(alloc, known.as_slice(), found.as_slice())
+}
+
+/// The same for hands about which nothing is known there. All answers are kept.
+#[cycle(search)]
+fn searched<L: Ledger>(
+    alloc: Global,
+    kept: &mut Kept,
+    marks: &Marks,
+    child: &Child,
+    left: u8,
+    hands: &[u64],
+    steps: &mut Steps<L>,
+) -> Result<Vec<u64>, NoMemory>
+    requires some { 1 ≤ left }
+    requires few { left ≤ 20 }
+    requires rises { IsRising hands.now }
+    requires child { IsChild (filled marks.now.position.well) marks.now.position.rows child.now.placement.piece
+        child.now }
+    ensures rises { IfOk result (λ v. IsRising v.items) }
+    ensures members { IfOk result (λ v. (hand : ℕ) → has v.items hand ≡ (has hands.now hand
+        && is_good kept.old.game (filled child.now.position.well) child.now.position.rows left hand)) }
+    ensures game { kept.new.game ≡ kept.old.game }
+    ensures counted { steps.old ≤ steps.new }
+{
+    let hold = kept.game.hold;
+    let below = marks_after(alloc, &mut kept.lister, hold, marks, child, left, hands);
+    let (good, bad) = explored(alloc, kept, &below, left - 1, hands, steps)?;
+    kept.keep(
+        alloc,
+        &child.position,
+        left,
+        good.as_slice(),
+        bad.as_slice(),
+    );
+    Ok(good)
 }
 
 /// Those of the hands that are not good at the position of the marks with one placement to come and then `left` more,
@@ -163,8 +163,8 @@ fn missed<L: Ledger>(
     Ok(open)
 }
 
-/// The hands that are good at the position of the marks with one placement to come and then `left` more. Those that no
-/// listed tiling serves are not tried, where it pays to ask. All answers are kept.
+/// The hands that are good at the position of the marks with one placement to come and then `left` more, and those that
+/// are not. Those that no listed tiling serves are not tried, where it pays to ask.
 #[cycle(search)]
 fn explored<L: Ledger>(
     alloc: Global,
@@ -173,26 +173,26 @@ fn explored<L: Ledger>(
     left: u8,
     hands: &[u64],
     steps: &mut Steps<L>,
-) -> Result<Vec<u64>, NoMemory>
+) -> Result<(Vec<u64>, Vec<u64>), NoMemory>
     requires few { left ≤ 19 }
     requires rises { IsRising hands.now }
-    ensures rises { IfOk result (λ v. IsRising v.items) }
-    ensures members { IfOk result (λ v. (hand : ℕ) → has v.items hand ≡ (has hands.now hand
-        && is_good kept.old.game (filled marks.now.position.well) marks.now.position.rows (left + 1) hand)) }
+    ensures answers { IfOk result (λ v. AreAnswered kept.old.game (filled marks.now.position.well)
+        marks.now.position.rows (left + 1) hands.now v.0.items v.1.items) }
     ensures game { kept.new.game ≡ kept.old.game }
     ensures counted { steps.old ≤ steps.new }
 {
     if !marks.asks_orders(&kept.game, left + 1) {
         let all = Vec::from_slice(alloc, hands)?;
         let bad = missed(alloc, kept, marks, left, all, steps)?;
-        return closed(alloc, kept, &marks.position, left, hands, bad.as_slice());
+        let good = without(alloc, hands, bad.as_slice())?;
+        return Ok((good, bad));
     }
     let likely = marks.buildable(alloc, &kept.game, left + 1, hands)?;
     let all = Vec::from_slice(alloc, likely.as_slice())?;
     let open = missed(alloc, kept, marks, left, all, steps)?;
-    let found = without(alloc, likely.as_slice(), open.as_slice())?;
-    let bad = without(alloc, hands, found.as_slice())?;
-    closed(alloc, kept, &marks.position, left, hands, bad.as_slice())
+    let good = without(alloc, likely.as_slice(), open.as_slice())?;
+    let bad = without(alloc, hands, good.as_slice())?;
+    Ok((good, bad))
 }
 
 /// The rests that are good after one of the places of a piece, at the position of the marks.
@@ -229,7 +229,8 @@ fn tried<L: Ledger>(
     without(alloc, rests, asked.rests.as_slice())
 }
 
-/// The hands that are good at a first position with `left` placements to come.
+/// The hands that are good at a first position with `left` placements to come. These answers are not kept, since no
+/// later question is about that position.
 pub fn answered_first<L: Ledger>(
     alloc: Global,
     kept: &mut Kept,
@@ -249,6 +250,7 @@ pub fn answered_first<L: Ledger>(
         return answered_at_end(alloc, position, hands);
     }
     let hold = kept.game.hold;
-    let marks = marks_of(alloc, &mut kept.lister, hold, position, left - 1, hands)?;
-    explored(alloc, kept, &marks, left - 1, hands, steps)
+    let marks = marks_of(alloc, &mut kept.lister, hold, position, left - 1, hands);
+    let (good, _) = explored(alloc, kept, &marks, left - 1, hands, steps)?;
+    Ok(good)
 }

@@ -59,12 +59,7 @@ impl Marks {
     }
 
     /// The pieces of a kind in the tilings of the wanted marks.
-    fn standing_pieces(
-        &self,
-        alloc: Global,
-        piece: Piece,
-        wanted: u64,
-    ) -> Result<Standing, NoMemory>
+    fn wanted_pieces(&self, alloc: Global, piece: Piece, wanted: u64) -> Result<Standing, NoMemory>
         ensures kind { IfOk result (λ standing. standing.pieces.piece ≡ piece) }
         ensures each { IfOk result (AreStanding self.now.known.items) }
     {
@@ -78,6 +73,23 @@ impl Marks {
             }
         }
         Ok(Standing { pieces, others })
+    }
+
+    /// The same. If there is not enough memory for them, each piece may stand in the tilings of each mark.
+    fn standing_pieces(&self, alloc: Global, piece: Piece, wanted: u64) -> Standing
+        ensures kind { result.pieces.piece ≡ piece }
+        ensures each { AreStanding self.now.known.items result }
+    {
+        match self.wanted_pieces(alloc, piece, wanted) {
+            Ok(standing) => standing,
+            Err(_) => Standing {
+                pieces: StandingPieces {
+                    piece,
+                    pieces: Vec::new(alloc),
+                },
+                others: u64::MAX,
+            },
+        }
     }
 
     /// In which of the marks' tilings a placement with these cells may stand. Bit `k` stands for mark `k`.
@@ -126,7 +138,7 @@ impl Marks {
     }
 
     /// The positions after the places of a piece that lie below the rows left, but for some at which none of the rests
-    /// is good. Adds one step.
+    /// is good. Counts one flood.
     pub fn children<L: Ledger>(
         &self,
         alloc: Global,
@@ -158,7 +170,7 @@ impl Marks {
             position.rows,
             steps,
         );
-        let pieces = self.standing_pieces(alloc, piece, wanted.unwrap_or(u64::MAX))?;
+        let pieces = self.standing_pieces(alloc, piece, wanted.unwrap_or(u64::MAX));
         let mut children = Vec::new(alloc);
         while let Some(placement) = places.take_least() {
             let taken = self.taken(&placement);

@@ -1,5 +1,5 @@
 // The tilings at a position: listed there, or those at the position before it that have the piece placed since.
-ghost use Rattle.std.specs.Prelude.{◌≡◌, ◌≤◌, IfOk, IfSome};
+ghost use Rattle.std.specs.Prelude.{◌≡◌, ◌≤◌, IfSome};
 ghost use Rattle.well.specs.Well.{filled};
 ghost use Rattle.percent.specs.Children.{IsChild};
 
@@ -9,28 +9,22 @@ use crate::position::{Child, Position};
 use crate::spread::rows_among;
 use empty_cells::Empties;
 use hold_queue::Hold;
-use pc_outside::NoMemory;
 use std::alloc::Global;
 use tiled_pieces::Lister;
 
-/// The counts of some hands, each once, or none if there are more than `most` of them.
-fn all_counts(
-    alloc: Global,
-    hands: &[u64],
-    pieces: u8,
-    most: usize,
-) -> Result<Vec<Counts>, NoMemory> {
+/// The counts of some hands, each once, or none if there are more than `most` of them or not enough memory for them.
+fn all_counts(alloc: Global, hands: &[u64], pieces: u8, most: usize) -> Vec<Counts> {
     let mut v = Vec::new(alloc);
     for hand in hands {
         let counts = counts_of(*hand, pieces);
-        if !v.as_slice().contains(&counts) {
-            if v.len() == most {
-                return Ok(Vec::new(alloc));
-            }
-            v.push(counts)?;
+        if v.as_slice().contains(&counts) {
+            continue;
+        }
+        if v.len() == most || v.push(counts).is_err() {
+            return Vec::new(alloc);
         }
     }
-    Ok(v)
+    v
 }
 
 /// For how many counts of pieces it pays to list the ordered tilings of a position, with one placement to come and
@@ -46,7 +40,8 @@ fn most_counts(hold: Hold, rows: u8, left: u8) -> usize {
     if left <= 3 { 8 } else { 0 }
 }
 
-/// All ordered tilings at a position by the pieces of some hands, if they can be listed.
+/// All ordered tilings at a position by the pieces of some hands. If they can't be listed, or there is not enough
+/// memory for them, nothing is known.
 pub fn marks_of(
     alloc: Global,
     lister: &mut Lister,
@@ -54,23 +49,19 @@ pub fn marks_of(
     position: &Position,
     left: u8,
     hands: &[u64],
-) -> Result<Marks, NoMemory>
+) -> Marks
     requires { left ≤ 20 }
-    ensures { IfOk result (λ marks. marks.position ≡ position.now) }
+    ensures { result.position ≡ position.now }
 {
-    let all = all_counts(
-        alloc,
-        hands,
-        left + 2,
-        most_counts(hold, position.rows, left),
-    )?;
+    let most = most_counts(hold, position.rows, left);
+    let all = all_counts(alloc, hands, left + 2, most);
     let mut marks = Marks::new(alloc, position);
     for counts in &all {
-        if !marks.list(alloc, lister, *counts)? {
-            return Ok(Marks::new(alloc, position));
+        if !marks.list(alloc, lister, *counts) {
+            return Marks::new(alloc, position);
         }
     }
-    Ok(marks)
+    marks
 }
 
 impl Marks {
@@ -81,7 +72,8 @@ impl Marks {
     ghost use Rattle.percent.specs.Fitting.{codes_in};
     ghost use Rattle.percent.specs.Marks.{IsTrueMark};
 
-    /// The mark of the pieces of a hand after a placement: the tilings that have its piece.
+    /// The mark of the pieces of a hand after a placement: the tilings that have its piece. `None` if they had no mark
+    /// before it, or if there is not enough memory.
     fn mark_after(
         &self,
         alloc: Global,
@@ -90,36 +82,31 @@ impl Marks {
         hand: u64,
         counts: Counts,
         taken: &Empties,
-    ) -> Result<Option<Mark>, NoMemory>
+    ) -> Option<Mark>
         requires few { left ≤ 20 }
         requires child { IsChild (filled self.now.position.well) self.now.position.rows child.now.placement.piece
             child.now }
         requires counts { (code : ℕ) → code < 8 → slice_index counts code ≡ codes_in (left + 1) hand code }
         requires taken { empty_cells taken.now ≡ sent_cells self.now.rows child.now.placement }
-        ensures { IfOk result (λ mark. IfSome mark (IsTrueMark (difference (empty_cells self.now.cells)
-            (sent_cells self.now.rows child.now.placement)))) }
+        ensures { IfSome result (IsTrueMark (difference (empty_cells self.now.cells)
+            (sent_cells self.now.rows child.now.placement))) }
     {
         let piece = child.placement.piece;
-        let Some(index) = self.index_with(hand, left, piece, None) else {
-            return Ok(None);
-        };
+        let index = self.index_with(hand, left, piece, None)?;
         let mark = &self.known[index as usize];
-        let tilings = mark.tilings.with(alloc, piece, taken)?;
-        Ok(Some(Mark { counts, tilings }))
+        match mark.tilings.with(alloc, piece, taken) {
+            Ok(tilings) => Some(Mark { counts, tilings }),
+            Err(_) => None,
+        }
     }
 
-    /// What is known of the tilings at the position after a placement, by the pieces of some hands.
-    pub fn after(
-        &self,
-        alloc: Global,
-        child: &Child,
-        left: u8,
-        hands: &[u64],
-    ) -> Result<Marks, NoMemory>
+    /// What is known of the tilings at the position after a placement, by the pieces of some hands. A mark for which
+    /// there is not enough memory is left out.
+    pub fn after(&self, alloc: Global, child: &Child, left: u8, hands: &[u64]) -> Marks
         requires few { left ≤ 20 }
         requires child { IsChild (filled self.now.position.well) self.now.position.rows child.now.placement.piece
             child.now }
-        ensures { IfOk result (λ marks. marks.position ≡ child.now.position) }
+        ensures { result.position ≡ child.now.position }
     {
         let taken = self.taken(&child.placement);
         let cells = self.cells.without_cells(&taken);
@@ -131,20 +118,21 @@ impl Marks {
             if likely.is_some() {
                 continue;
             }
-            if let Some(mark) = self.mark_after(alloc, child, left, *hand, counts, &taken)? {
-                known.push(mark)?;
+            if let Some(mark) = self.mark_after(alloc, child, left, *hand, counts, &taken) {
+                let _ = known.push(mark);
             }
         }
-        Ok(Marks {
+        Marks {
             position: child.position,
             cells,
             rows: rows_among(&self.rows, self.position.rows, cells.rows()),
             known,
-        })
+        }
     }
 }
 
-/// All ordered tilings at the position after a placement by the pieces of some hands, if they can be listed.
+/// What is known of the tilings at the position after a placement, by the pieces of some hands. If nothing is known
+/// before it, they are listed.
 pub fn marks_after(
     alloc: Global,
     lister: &mut Lister,
@@ -153,12 +141,12 @@ pub fn marks_after(
     child: &Child,
     left: u8,
     hands: &[u64],
-) -> Result<Marks, NoMemory>
+) -> Marks
     requires some { 1 ≤ left }
     requires few { left ≤ 20 }
     requires child { IsChild (filled marks.now.position.well) marks.now.position.rows child.now.placement.piece
         child.now }
-    ensures { IfOk result (λ marks. marks.position ≡ child.now.position) }
+    ensures { result.position ≡ child.now.position }
 {
     if marks.is_empty() {
         return marks_of(alloc, lister, hold, &child.position, left - 1, hands);

@@ -163,20 +163,14 @@ impl Marks {
     }
 
     /// Lists all ordered tilings by pieces with these counts, and says whether they could be listed.
-    pub fn list(
-        &mut self,
-        alloc: Global,
-        lister: &mut Lister,
-        counts: Counts,
-    ) -> Result<bool, NoMemory>
+    pub fn list(&mut self, alloc: Global, lister: &mut Lister, counts: Counts) -> bool
         ensures { self.new.position ≡ self.old.position }
     {
         let most = MOST.saturating_sub(self.count_tilings());
-        let Some(mark) = listed(alloc, lister, &self.cells, counts, most) else {
-            return Ok(false);
-        };
-        self.known.push(mark)?;
-        Ok(true)
+        match listed(alloc, lister, &self.cells, counts, most) {
+            Some(mark) => self.known.push(mark).is_ok(),
+            None => false,
+        }
     }
 
     /// The index of the mark of the pieces of a rest and one more, if there is one. One index is looked at first.

@@ -15,7 +15,7 @@ use Rattle.percent.specs.Children.{IsChild}
 use Rattle.percent.specs.Marks.{AreIndexes, IsStanding}
 use Rattle.percent.specs.GoodHands.{is_good, is_good_after, is_good_at}
 use Rattle.std.proofs.lemmas.Result.{IfOk-weaker}
-use Rattle.percent.proofs.GoodSteps.{good-ends, answer-kept, answer-known, explore-open, explore-step, try-ends, try-step, try-starts}
+use Rattle.percent.proofs.GoodSteps.{good-ends, answer-kept, answer-known, answers-at, explore-open, explore-step, found-good, open-bad, try-ends, try-step, try-starts}
 use Rattle.percent.proofs.answered.+search.Goals as goal
 
 -- what holds of a value that may be there holds of the one that is
@@ -56,12 +56,34 @@ answered-returns-then-is_empty-3-clause-members g t c = λ hand.
     let none : (vec_len c.in-Some.known == 0) ≡ true = sym c.is_empty-3.ensures ∙ c.if-is_empty-3.true in
     let short : length c.in-Some.known.items ≡ 0 = grind (arith, nat_tests) in
     let nil = nil_from_length c.in-Some.known.items short in
-    let whole : c.args.left - 1 + 1 ≡ c.args.left = omega (arith, c.if-left-eq0.false) in
     c.in_ok-found.ensures.members hand
-    ∙ (λ i. has (c.as_slice-2.ensures.value i) hand && is_good c.args.kept.now.game (filled (c.in_ok-below-2.ensures i).well) (c.in_ok-below-2.ensures i).rows (whole i) hand)
+    ∙ ap (λ l. has l hand && good hand) c.as_slice.ensures.value
     ∙ ap (λ b. b || (has c.in-Some.unknown.items hand && good hand)) (sym (ap (λ l. has l hand) nil ∙ has-none hand))
     ∙ (some-holds c.in_ok-known.field-0 (c.in-Some.known, c.in-Some.unknown) c.in-Some.is
     (λ v. (hand : ℕ) → (has v.0.items hand || (has v.1.items hand && good hand)) ≡ (has c.args.hands.now hand && good hand)) c.in_ok-known.ensures.members) hand
+
+pub searched-keep-requires-clause-found_true : goal.searched-keep-requires-clause-found_true
+searched-keep-requires-clause-found_true g t c = λ hand there.
+    let p = c.args.child.now.position in
+    let answers = answers-at c.args.kept.now.game c.marks_after-below.result.position p (c.args.left - 1 + 1) c.args.left c.args.hands.now c.in_ok-good.good.items c.in_ok-good.bad.items
+    c.marks_after-below.ensures (omega (arith, c.requires.some)) c.in_ok-good.ensures.answers in
+    ap (λ (game : Game). is_good game (filled p.well) p.rows c.args.left hand) c.in_ok-good.ensures.game
+    ∙ found-good c.in_ok-good.good.items c.args.hands.now (is_good c.args.kept.now.game (filled p.well) p.rows c.args.left) answers.goods hand
+    (sym (ap (λ l. has l hand) c.as_slice.ensures.value) ∙ there)
+
+pub searched-keep-requires-clause-missed_true : goal.searched-keep-requires-clause-missed_true
+searched-keep-requires-clause-missed_true g t c = λ hand there.
+    let p = c.args.child.now.position in
+    let answers = answers-at c.args.kept.now.game c.marks_after-below.result.position p (c.args.left - 1 + 1) c.args.left c.args.hands.now c.in_ok-good.good.items c.in_ok-good.bad.items
+    c.marks_after-below.ensures (omega (arith, c.requires.some)) c.in_ok-good.ensures.answers in
+    ap (λ (game : Game). is_good game (filled p.well) p.rows c.args.left hand) c.in_ok-good.ensures.game
+    ∙ open-bad c.args.hands.now c.in_ok-good.bad.items (is_good c.args.kept.now.game (filled p.well) p.rows c.args.left) answers.bads hand
+    (sym (ap (λ l. has l hand) c.as_slice-2.ensures.value) ∙ there)
+
+pub searched-returns-clause-members : goal.searched-returns-clause-members
+searched-returns-clause-members g t c =
+    (answers-at c.args.kept.now.game c.marks_after-below.result.position c.args.child.now.position (c.args.left - 1 + 1) c.args.left c.args.hands.now c.in_ok-good.good.items c.in_ok-good.bad.items
+    c.marks_after-below.ensures (omega (arith, c.requires.some)) c.in_ok-good.ensures.answers).goods
 
 seven : (order : List Piece) → IsPermutation all_pieces order → length order ≡ 7
 seven order same = length_permutation all_pieces order same

@@ -5,16 +5,19 @@ use Rattle.percent.proofs.GoodSteps.{Exploring, Trying}
 use Rattle.percent.proofs.answered.+search.Given as goal
 
 abbrev pub decreases-answered : goal.decreases-answered
-decreases-answered g l = 4 * l.left
+decreases-answered g l = 5 * l.left + 1
+
+abbrev pub decreases-searched : goal.decreases-searched
+decreases-searched g l = 5 * l.left
 
 abbrev pub decreases-explored : goal.decreases-explored
-decreases-explored g l = 4 * l.left + 3
+decreases-explored g l = 5 * l.left + 4
 
 abbrev pub decreases-missed : goal.decreases-missed
-decreases-missed g l = 4 * l.left + 2
+decreases-missed g l = 5 * l.left + 3
 
 abbrev pub decreases-tried : goal.decreases-tried
-decreases-tried g l = 4 * l.left + 1
+decreases-tried g l = 5 * l.left + 2
 
 abbrev pub invariant-missed-loop-piece : goal.invariant-missed-loop-piece
 invariant-missed-loop-piece g l =

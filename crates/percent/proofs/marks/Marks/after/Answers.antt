@@ -1,5 +1,7 @@
 -- The rows that are kept are those of the position after the placement.
-use Rattle.std.proofs.Common.{◌≡◌, ◌<◌, ◌-◌, ◌∙◌, ℕ, sym, ap, subst, arith}
+use Rattle.std.proofs.Common.{All, Bool, true, false, List, [], ◌∷◌, ◌++◌, ◌≡◌, ◌<◌, ◌-◌, ◌∙◌, ℕ, sym, ap, subst, arith}
+use Rattle.std.specs.Prelude.{if◌then◌else◌}
+use Rattle.std.proofs.lemmas.List.Elements.{All-push}
 use Rattle.std.specs.List.{list_any}
 use Rattle.lane_board.specs.Field.{Field, difference}
 use Rattle.lane_board.specs.FullRows.{columns}
@@ -9,9 +11,33 @@ use Rattle.well.specs.Lock.{rows_removed, together}
 use Rattle.empty_cells.specs.Empties.{empty_cells}
 use Rattle.empty_cells.specs.SentCells.{sent_cells}
 use Rattle.empty_cells.proofs.CallerLemmas.{cells_small}
+use Rattle.percent.specs.declared.marks.Mark.{Mark}
+use Rattle.percent.specs.Marks.{IsTrueMark}
 use Rattle.percent.specs.Spread.{IsSpread}
 use Rattle.percent.proofs.SpreadLemmas.{spread-after, spread-placed, stays-with}
 use Rattle.percent.proofs.marks.Marks.after.Goals as goal
+use Rattle.percent.proofs.marks.Marks.after.Goals.{in-Some+in-Err-1, in-Some+in-Ok-1, in_default}
+
+-- a true mark is added, or not
+pushed : (Holds : Mark → Type 0) (known : List Mark) (mark : Mark) (is_added : Bool) → All Holds known → Holds mark → All Holds (if is_added then known ++ mark ∷ [] else known)
+pushed Holds known mark true facts holds = All-push Holds known mark facts holds
+pushed Holds known mark false facts holds = facts
+
+pub loop-hand-preserved : goal.loop-hand-preserved
+loop-hand-preserved c =
+    let marks = c.args.self.now in
+    let E : Field = empty_cells c.without_cells-cells.result in
+    let cells_are : E ≡ difference (empty_cells marks.cells) (sent_cells marks.rows c.args.child.now.placement) =
+    c.without_cells-cells.ensures ∙ ap (difference (empty_cells marks.cells)) c.taken-taken.ensures in
+    elim c.match-mark_after.branch [
+      | in-Some+in-Err-1 w ↦ rw w.known-is
+          (subst (All (IsTrueMark E)) (sym w.push.ensures.items)
+          (pushed (IsTrueMark E) c.loop-hand.known.items w.in-Some.mark _ c.loop-hand.invariant (subst (λ (D : Field). IsTrueMark D w.in-Some.mark) (sym cells_are) w.in-Some.ensures)))
+      | in-Some+in-Ok-1 w ↦ rw w.known-is
+          (subst (All (IsTrueMark E)) (sym w.push.ensures.items)
+          (pushed (IsTrueMark E) c.loop-hand.known.items w.in-Some.mark _ c.loop-hand.invariant (subst (λ (D : Field). IsTrueMark D w.in-Some.mark) (sym cells_are) w.in-Some.ensures)))
+      | in_default w ↦ rw w.known-is c.loop-hand.invariant
+    ]
 
 pub invariant_of-result : goal.invariant_of-result
 invariant_of-result c =

@@ -51,13 +51,13 @@ loop-placement-smaller g c =
     let p = c.args.self.now.position in
     taken-fewer c.args.game.now (filled p.well) p.rows c.args.piece c.args.left c.args.asked.now.rests.items c.loop-placement.children.items c.loop-placement.places c.take_least.new.self c.in-Some.placement c.loop-placement.invariant.0 c.in-Some.ensures.least c.in-Some.ensures.rest
 
-pub loop-placement-smaller-in-Continue-branch-2 : goal.loop-placement-smaller-in-Continue-branch-2
-loop-placement-smaller-in-Continue-branch-2 g c =
+pub loop-placement-smaller-in-Continue-1 : goal.loop-placement-smaller-in-Continue-1
+loop-placement-smaller-in-Continue-1 g c =
     let p = c.args.self.now.position in
     taken-fewer c.args.game.now (filled p.well) p.rows c.args.piece c.args.left c.args.asked.now.rests.items c.loop-placement.children.items c.loop-placement.places c.take_least.new.self c.in-Some.placement c.loop-placement.invariant.0 c.in-Some.ensures.least c.in-Some.ensures.rest
 
-pub loop-placement-preserved-in-Continue-branch-2 : goal.loop-placement-preserved-in-Continue-branch-2
-loop-placement-preserved-in-Continue-branch-2 g c =
+pub loop-placement-preserved-in-Continue-1 : goal.loop-placement-preserved-in-Continue-1
+loop-placement-preserved-in-Continue-1 g c =
     let p = c.args.self.now.position in
     let low = taken c.args.game.now (filled p.well) p.rows c.args.piece c.args.left c.args.asked.now.rests.items c.loop-placement.children.items c.loop-placement.places c.take_least.new.self c.in-Some.placement c.loop-placement.invariant.0 c.in-Some.ensures.least c.in-Some.ensures.rest in (
       subst (λ l. Entering c.args.game.now (filled p.well) p.rows c.args.piece c.args.left c.args.asked.now.rests.items l c.take_least.new.self) (sym c.in_ok-push.ensures.items)

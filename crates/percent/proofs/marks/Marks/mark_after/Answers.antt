@@ -7,15 +7,15 @@ use Rattle.percent.proofs.marks.Marks.mark_after.Goals as goal
 
 pub index-mark-requires : goal.index-mark-requires
 index-mark-requires c =
-    let within = slice_get_within c.args.self.now.known.items c.in-Some.index c.in-Some.ensures.there.mark c.in-Some.ensures.there.there in
+    let within = slice_get_within c.args.self.now.known.items c.in_ok-index.index c.in_ok-index.ensures.there.mark c.in_ok-index.ensures.there.there in
     let size = c.args.self.now.known.ok in
     omega (arith, within, size)
 
-pub returns : goal.returns
-returns c =
+pub returns-in-Ok : goal.returns-in-Ok
+returns-in-Ok c =
     let marks = c.args.self.now in
-    let k = c.in-Some.ensures in
-    let within = slice_get_within marks.known.items c.in-Some.index k.there.mark k.there.there in
-    mark-listed marks.position c.args.child.now c.args.left c.args.hand c.in-Some.index marks.known.items marks.rows marks.cells (empty_cells c.args.taken.now) c.index-mark.result.now _ marks.spread marks.are_true c.requires.child k
-    (slice_get_read marks.known.items _ c.in-Some.index c.index-mark.result.now refl within c.index-mark.ensures)
-    c.requires.taken c.requires.counts c.in_ok-tilings.ensures
+    let k = c.in_ok-index.ensures in
+    let within = slice_get_within marks.known.items c.in_ok-index.index k.there.mark k.there.there in
+    mark-listed marks.position c.args.child.now c.args.left c.args.hand c.in_ok-index.index marks.known.items marks.rows marks.cells (empty_cells c.args.taken.now) c.index-mark.result.now _ marks.spread marks.are_true c.requires.child k
+    (slice_get_read marks.known.items _ c.in_ok-index.index c.index-mark.result.now refl within c.index-mark.ensures)
+    c.requires.taken c.requires.counts c.in-Ok.ensures
