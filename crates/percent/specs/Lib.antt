@@ -4,10 +4,10 @@ pub mod Answers
 -- What contracts cite beside these: views of values, and readings and tests, each with its law
 pub mod GoodHands
 pub mod OpenRows
+pub mod Fitting
 pub mod BuiltHands
 -- What serves proofs alone
 pub mod Kept
-pub mod Fitting
 pub mod Children
 pub mod Spread
 pub mod Marks

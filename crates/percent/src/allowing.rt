@@ -9,7 +9,7 @@ ghost use Rattle.percent.specs.Building.{AreNoted, KeepsBits};
 use crate::fitting::Counts;
 use hold_queue::Hold;
 
-/// For each sum of weights the hands that allow it, one bit each.
+/// A table that has for each sum of weights below 512 the hands that allow it, one bit each.
 pub type Sums = [u64; 512];
 
 /// Weights of kinds by which any two choices of so many pieces of each kind have different sums, if these are small.
@@ -36,7 +36,7 @@ fn first_weights(weights: &[u16; 8], count: u8, hand: u64) -> usize
     sum
 }
 
-/// Sets a bit at a sum, and says whether the sum has a place.
+/// Sets a bit at a sum, and says whether the sum is in the table.
 fn set_at(allowed: &mut Sums, sum: usize, bit: u8) -> bool
     requires { bit < 64 }
     ensures kept { KeepsBits allowed.old allowed.new }
@@ -49,7 +49,7 @@ fn set_at(allowed: &mut Sums, sum: usize, bit: u8) -> bool
     true
 }
 
-/// Without hold: sets a hand's bit at the sums of its first pieces, and says whether all of them have a place.
+/// Without hold: sets a hand's bit at the sums of its first pieces, and says whether all of them are in the table.
 fn allow_first(allowed: &mut Sums, weights: &[u16; 8], left: u8, hand: u64, bit: u8) -> bool
     requires few { left ≤ 20 }
     requires bit { bit < 64 }
@@ -65,7 +65,7 @@ fn allow_first(allowed: &mut Sums, weights: &[u16; 8], left: u8, hand: u64, bit:
     true
 }
 
-/// Sets a hand's bit at the sums of its first `count` pieces but one, and says whether all of them have a place.
+/// Sets a hand's bit at the sums of its first `count` pieces but one, and says whether all of them are in the table.
 fn allow_all_but_one(allowed: &mut Sums, weights: &[u16; 8], count: u8, hand: u64, bit: u8) -> bool
     requires { bit < 64 }
     ensures kept { KeepsBits allowed.old allowed.new }
@@ -85,7 +85,7 @@ fn allow_all_but_one(allowed: &mut Sums, weights: &[u16; 8], count: u8, hand: u6
     true
 }
 
-/// With hold: sets a hand's bit at the sums of its first pieces but one, and says whether all of them have a place.
+/// With hold: sets a hand's bit at the sums of its first pieces but one, and says whether all of them are in the table.
 fn allow_held(allowed: &mut Sums, weights: &[u16; 8], left: u8, hand: u64, bit: u8) -> bool
     requires few { left ≤ 20 }
     requires bit { bit < 64 }
@@ -100,7 +100,8 @@ fn allow_held(allowed: &mut Sums, weights: &[u16; 8], left: u8, hand: u64, bit: 
     true
 }
 
-/// Sets a hand's bit at the sums of the pieces that can be taken from it, and says whether all of them have a place.
+/// Sets a hand's bit at the sums of the pieces that can be taken from it, and says whether all of them are in the
+/// table.
 fn allow(allowed: &mut Sums, hold: Hold, weights: &[u16; 8], left: u8, hand: u64, bit: u8) -> bool
     requires few { left ≤ 20 }
     requires bit { bit < 64 }
@@ -113,7 +114,7 @@ fn allow(allowed: &mut Sums, hold: Hold, weights: &[u16; 8], left: u8, hand: u64
     }
 }
 
-/// What up to 64 hands allow, and those of which some sum has no place.
+/// What up to 64 hands allow, and those of which some sum is not in the table.
 pub fn sums_of(hold: Hold, weights: &[u16; 8], left: u8, hands: &[u64]) -> (Sums, u64)
     requires few { left ≤ 20 }
     requires hands { length hands.now ≤ 64 }

@@ -115,8 +115,8 @@ impl Mark {
     ghost use Rattle.empty_cells.specs.Empties.{empty_cells};
     ghost use Rattle.percent.specs.Building.{IsRefused};
 
-    /// Those of up to 64 hands that no listed tiling serves, one bit each. A hand of which some sum of weights has no
-    /// place is not among them.
+    /// Those of up to 64 hands that no listed tiling serves, one bit each. A hand of which some sum of weights is not
+    /// in the table is not among them.
     fn unserved(&self, cells: &Empties, question: &Question, hands: &[u64]) -> u64
         requires { length hands.now ≤ 64 }
         ensures { (k : ℕ) → k < length hands.now → has_bit result k ≡ true
