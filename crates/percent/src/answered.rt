@@ -220,7 +220,7 @@ fn tried<L: Ledger>(
     }
     let all = Vec::from_slice(alloc, rests)?;
     let mut asked = marks.asked(alloc, piece, left, all)?;
-    let children = marks.children(alloc, &kept.game, &kept.flood, piece, left, &asked, steps)?;
+    let children = marks.children(alloc, kept, piece, left, &asked, steps)?;
     for child in &children {
         let fit = fitting_after(alloc, &mut kept.fits, marks, child, left, &asked)?;
         let good = answered(alloc, kept, marks, child, left, fit.as_slice(), steps)?;

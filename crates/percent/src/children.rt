@@ -1,6 +1,5 @@
 // The positions that a piece leads to.
 ghost use Rattle.std.specs.Prelude.{◌≡◌, ◌≤◌, ◌+◌, ◌-◌, ℕ, IsTrue, IfOk, IfSome, All, true, false};
-ghost use Rattle.srs.specs.Rules.{table_of};
 ghost use Rattle.well.specs.Well.{filled};
 ghost use Rattle.well.specs.Free.{is_free};
 ghost use Rattle.well.specs.Lock.{locked, rows_removed};
@@ -9,7 +8,6 @@ ghost use Rattle.lane_board.specs.Field.{difference};
 ghost use Rattle.prune.specs.Tiling.{Supply, Tiling};
 ghost use Rattle.empty_cells.specs.Empties.{all_but, empty_cells};
 ghost use Rattle.empty_cells.specs.SentCells.{sent_cells};
-ghost use Rattle.reach.specs.FloodRules.{flood_table};
 ghost use Rattle.number_sets.specs.Rising.{has};
 ghost use Rattle.percent.specs.declared.game.Game.{Game};
 ghost use Rattle.percent.specs.Children.{IsChild};
@@ -18,13 +16,13 @@ ghost use Rattle.percent.specs.Marks.{AreIndexes, IsStanding};
 ghost use Rattle.percent.specs.Standing.{AreStanding};
 ghost use Rattle.percent.specs.Wanted.{IsWanted};
 
-use crate::game::Game;
+use crate::kept::Kept;
 use crate::marks::{Asked, Marks};
 use crate::order::rank;
 use crate::position::Child;
 use empty_cells::Empties;
 use pc_outside::NoMemory;
-use reach::{FloodRules, Steps};
+use reach::Steps;
 use srs::{Piece, Placement};
 use std::alloc::Global;
 use std::sync::ledger::Ledger;
@@ -142,8 +140,7 @@ impl Marks {
     pub fn children<L: Ledger>(
         &self,
         alloc: Global,
-        game: &Game,
-        rules: &FloodRules,
+        kept: &Kept,
         piece: Piece,
         left: u8,
         asked: &Asked,
@@ -151,22 +148,21 @@ impl Marks {
     ) -> Result<Vec<Child>, NoMemory>
         requires few { left ≤ 20 }
         requires indexes { AreIndexes self.now.known.items piece left asked.now.rests.items asked.now.indexes.items }
-        requires rules { flood_table rules.now ≡ table_of game.now.rules }
         ensures after { IfOk result (λ v. All (IsChild (filled self.now.position.well) self.now.position.rows piece)
             v.items) }
         ensures standing { IfOk result (λ v. All (λ child. IsStanding self.now.known.items self.now.rows
             child.placement child.standing) v.items) }
         ensures good { IfOk result (λ v. (rest : ℕ) → has asked.now.rests.items rest ≡ true
-            → is_good_at game.now v.items left rest
-            ≡ is_good_after game.now (filled self.now.position.well) self.now.position.rows piece left rest) }
+            → is_good_at kept.now.game v.items left rest
+            ≡ is_good_after kept.now.game (filled self.now.position.well) self.now.position.rows piece left rest) }
         ensures counted { steps.new ≡ steps.old + 1 }
     {
         let position = &self.position;
         let wanted = self.wanted(piece, left, asked);
-        let mut places = rules.places_below(
+        let mut places = kept.flood.places_below(
             &position.well,
             piece,
-            game.drop_mode,
+            kept.game.drop_mode,
             position.rows,
             steps,
         );
