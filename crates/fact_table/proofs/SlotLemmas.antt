@@ -1,8 +1,9 @@
 -- What is read and written in a slot.
-use Rattle.std.proofs.Common.{◌≡◌, ℕ, ◌-◌, ◌<◌, Option, None, Some, Vec, Global, length, get_or, set, sym, subst, ap, ◌∙◌, refl, arith}
+use Rattle.std.proofs.Common.{◌≡◌, ℕ, ◌-◌, ◌<◌, Option, None, Some, Vec, Global, List, Contains, length, get_or, set, sym, subst, ap, ◌∙◌, refl, inl, inr, arith}
 use Rattle.std.specs.Prelude.{IfSome, bit_and, slice_get, vec_len}
+use Rattle.std.proofs.lemmas.List.{length-set, get_or-set_same, set_past}
 use Rattle.std.proofs.lemmas.Nat.{and_le_r}
-use Rattle.std.proofs.lemmas.Option.{slice_get_read}
+use Rattle.std.proofs.lemmas.Option.{none-some, slice_get_cases, slice_get_read}
 use Rattle.fact_table.specs.Entries.{entries_of, slot_in, with_entry}
 
 -- the index lies within
@@ -31,3 +32,18 @@ slot-written inside kept len hash entry is long =
 -- without room nothing is written
 pub slot-lost : {E : Type 0} (inside : Option (Vec E Global)) (hash : ℕ) (entry : E) → inside ≡ None → entries_of inside ≡ with_entry (entries_of inside) hash entry
 slot-lost inside hash entry is = subst (λ o. entries_of o ≡ with_entry (entries_of o) hash entry) (sym is) refl
+
+-- an entry that is put is there
+pub slot-among : {E : Type 0} (entries : List E) (hash : ℕ) (entry : E) → 0 < length entries → Contains (with_entry entries hash entry) entry
+slot-among entries hash entry some =
+    let index : ℕ = slot_in (length entries) hash in
+    let within : index < length entries = slot-within (length entries) hash some in
+    let long = length-set entries index entry in
+    (index, omega (arith, long, within), get_or-set_same entries index entry entry within)
+
+-- where no slot is read, none is written
+pub none-put : {E : Type 0} (entries : List E) (hash : ℕ) (entry : E) → None ≡ slice_get entries (slot_in (length entries) hash) → entries ≡ with_entry entries hash entry
+none-put entries hash entry none = elim (slice_get_cases entries (slot_in (length entries) hash)).1 [
+  | inl there ↦ absurd (none-some there.0 (none ∙ there.2))
+  | inr past ↦ sym (set_past entries (slot_in (length entries) hash) entry past.0)
+]

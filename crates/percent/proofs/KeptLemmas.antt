@@ -1,12 +1,10 @@
 -- A slot stands for a position, and what is kept is true of it.
-use Rattle.std.proofs.Common.{◌≡◌, ℕ, nat_lt, Bool, true, false, ◌&&◌, ◌||◌, not, List, [], ◌+◌, ◌-◌, ◌<◌, ◌≤◌, All, Contains, None, Some, length, refl, sym, ap, subst, ◌∙◌, inl, inr, arith, rules}
+use Rattle.std.proofs.Common.{◌≡◌, ℕ, nat_lt, Bool, true, false, ◌&&◌, ◌||◌, not, List, [], ◌+◌, ◌≤◌, All, Some, length, refl, sym, ap, subst, ◌∙◌, inl, inr, arith, rules}
 use Rattle.std.specs.Prelude.{IfSome, slice_get}
 use Rattle.std.proofs.lemmas.List.Sums.{get_or-le-sum_by, sum_by-le, sum_by-set}
 use Rattle.std.proofs.Math.Path.{fun_ext}
-use Rattle.std.proofs.lemmas.List.{length-set, get_or-set_same, set_past}
 use Rattle.std.proofs.lemmas.Bool.{cases_Bool, cases_lt, and_from, lt-ltb}
-use Rattle.std.proofs.lemmas.Nat.{and_le_r}
-use Rattle.std.proofs.lemmas.Option.{get_or_from_slice_get, none-some, slice_get_cases, slice_get_within}
+use Rattle.std.proofs.lemmas.Option.{get_or_from_slice_get, slice_get_within}
 use Rattle.fact_table.specs.Entries.{slot_in, with_entry}
 use Rattle.fact_table.proofs.CallerLemmas.{facts-entry, facts-none}
 use Rattle.lane_board.specs.Field.{intersection, rows_below}
@@ -85,23 +83,6 @@ blank-true game slots blank = facts-none IsBlank (IsTrueSlot game) slots (λ slo
 -- a slot that is read is true
 pub slot-true : (game : Game) (slots : List Slot) (hash : ℕ) (slot : Slot) → All (IsTrueSlot game) slots → Some slot ≡ slice_get slots (slot_in (length slots) hash) → IsTrueSlot game slot
 slot-true game slots hash slot all is = subst (λ o. IfSome o (IsTrueSlot game)) (sym is) (facts-entry (IsTrueSlot game) slots hash all)
-
--- a slot that is put is there
-pub slot-among : (slots : List Slot) (hash : ℕ) (slot : Slot) → 0 < length slots → Contains (with_entry slots hash slot) slot
-unfolding slot_in
-slot-among slots hash slot some =
-    let index : ℕ = slot_in (length slots) hash in
-    let low = and_le_r hash (length slots - 1) in
-    let within : index < length slots = omega (arith, low, some) in
-    let long = length-set slots index slot in
-    (index, omega (arith, long, within), get_or-set_same slots index slot slot within)
-
--- where no slot is read, none is written
-pub none-put : (slots : List Slot) (hash : ℕ) (slot : Slot) → None ≡ slice_get slots (slot_in (length slots) hash) → slots ≡ with_entry slots hash slot
-none-put slots hash slot none = elim (slice_get_cases slots (slot_in (length slots) hash)).1 [
-  | inl there ↦ absurd (none-some there.0 (none ∙ there.2))
-  | inr past ↦ sym (set_past slots (slot_in (length slots) hash) slot past.0)
-]
 
 -- ---- how many answers there are
 

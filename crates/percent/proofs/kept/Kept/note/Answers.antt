@@ -1,8 +1,9 @@
 -- The entry is put in its slot.
 use Rattle.std.proofs.Common.{◌<◌, ◌≡◌, ◌==◌, ◌∙◌, false, Contains, length, sym, subst, ap, arith}
 use Rattle.std.proofs.lemmas.Bool.Decides.{nat_tests}
+use Rattle.fact_table.proofs.CallerLemmas.{slot-among}
 use Rattle.percent.specs.declared.kept.Kept.{Kept}
-use Rattle.percent.proofs.KeptLemmas.{blank-counted, blank-true, slot-among}
+use Rattle.percent.proofs.KeptLemmas.{blank-counted, blank-true}
 use Rattle.percent.proofs.kept.Kept.note.Goals as goal
 use Rattle.percent.proofs.kept.Kept.note.Goals.{then-self-count, else-self-count}
 

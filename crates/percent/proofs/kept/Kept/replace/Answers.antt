@@ -1,8 +1,8 @@
 -- The answers of the slot go, and those of the entry come.
 use Rattle.std.proofs.Common.{All, sym, subst, ap, arith}
-use Rattle.fact_table.proofs.CallerLemmas.{facts-put}
+use Rattle.fact_table.proofs.CallerLemmas.{facts-put, none-put}
 use Rattle.percent.specs.Kept.{answers_in, IsTrueSlot}
-use Rattle.percent.proofs.KeptLemmas.{none-put, one-of-all, replaced}
+use Rattle.percent.proofs.KeptLemmas.{one-of-all, replaced}
 use Rattle.percent.proofs.kept.Kept.replace.Goals as goal
 
 pub overflow_sub-self : goal.overflow_sub-self
