@@ -47,7 +47,6 @@ fn given(needed: u8, text: Option<&str>) -> Result<Option<Sequence>, Fault>
 
 /// What the settings ask to list. `bytes` are those of the source. A refusal is the first fault of what they name, or
 /// that memory ran out, which only a fumen text takes.
-#[tactic(auto, unfolding(crate::specs::Faults::listing_fault))]
 pub fn listing_of(
     alloc: Global,
     settings: &PathSettings<'_>,

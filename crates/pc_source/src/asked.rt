@@ -102,9 +102,9 @@ fn problem_of(well: Well, settings: &FieldSettings<'_>) -> Result<Problem, Fault
     }
 }
 
-/// The problem that the settings name for the field that their words give. A refusal is the first fault of these: the
-/// text of the field, a cell at or above the height, a full row, the pattern, too few pieces at hand. Or memory ran
-/// out, which only a fumen text takes.
+/// The problem that the settings name for the field that their words give. A refusal is that memory ran out, which only
+/// a fumen text takes, or the first fault of these: the text of the field, a cell at or above the height, a full row,
+/// the pattern, too few pieces at hand.
 pub fn problem_asked(
     alloc: Global,
     settings: &FieldSettings<'_>,
