@@ -65,30 +65,21 @@ impl Frame {
         ensures same { self.new.setup ≡ self.old.setup }
         ensures noted { CountsUp notes.old.floods notes.new.floods steps.old steps.new }
     {
-        self.tried = target.piece.code();
+        let piece = target.piece;
+        self.tried = piece.code();
         self.places = None;
         self.entered = None;
-        if !self.setup.line.queues.may_play(target.piece) {
+        if !self.setup.line.queues.may_play(piece) {
             return false;
         }
-        let next_supply = self.setup.supply_after(target.piece);
-        self.flood(
-            target.piece,
-            next_supply,
-            rules,
-            drop_mode,
-            &mut notes.floods,
-            steps,
-        );
+        let supply = self.setup.supply_after(piece);
+        self.flood(piece, supply, rules, drop_mode, &mut notes.floods, steps);
         let reached = self.reaches(target);
         self.entered = Some(*target);
         if !reached {
             return false;
         }
-        if !self
-            .setup
-            .is_worth(target, &next_supply, &mut notes.tilings)
-        {
+        if !self.setup.is_worth(target, &supply, &mut notes.tilings) {
             return false;
         }
         match self.enter(target, &mut notes.queues, behind) {
