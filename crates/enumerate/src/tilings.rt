@@ -66,7 +66,7 @@ impl Tilings {
     pub fn new(alloc: Global) -> Result<Tilings, NoMemory>
         ensures { IfOk result (λ tilings. kept tilings.dead ≡ []) }
     {
-        let decided = TilingStore::with_places(alloc, DECIDED)?;
+        let decided = TilingStore::with_room(alloc, DECIDED)?;
         let left = PlaceMemory::new(alloc)?;
         let dead = DeadMemo::new(alloc, DEAD)?;
         Ok(Tilings {

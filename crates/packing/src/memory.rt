@@ -13,7 +13,7 @@ use srs::{Piece, Placement};
 use std::alloc::Global;
 
 /// How many sets of answers are remembered.
-const PLACES: usize = 4096;
+const ROOM: usize = 4096;
 
 /// Which placements of a piece leave a tiling of a set of cells by a supply, as far as that was asked.
 #[derive(Clone, Copy)]
@@ -90,7 +90,7 @@ impl Entry for PlaceAnswers {
     }
 }
 
-/// The hash of a question about a piece. For the same cells and the same supply the seven kinds have different places:
+/// The hash of a question about a piece. For the same cells and the same supply the seven kinds have different slots:
 /// the first seven multiples of 583 differ, and each is less than 4,096.
 #[inline(always)]
 pub fn place_hash(cells: &Empties, supply: SupplyWord, piece: Piece) -> u64 {
@@ -106,7 +106,7 @@ pub struct PlaceMemory {
 impl PlaceMemory {
     /// An empty memory. `NoMemory` if there is not enough memory.
     pub fn new(alloc: Global) -> Result<PlaceMemory, NoMemory> {
-        let sets = FactTable::new(alloc, PLACES)?;
+        let sets = FactTable::new(alloc, ROOM)?;
         Ok(PlaceMemory { sets })
     }
 

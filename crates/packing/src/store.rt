@@ -12,9 +12,9 @@ use pc_outside::NoMemory;
 use std::alloc::Global;
 
 /// How many questions a store keeps, if its size is not given.
-const PLACES: usize = 32768;
+const ROOM: usize = 32768;
 
-/// Keeps the answers to questions that it was asked, each in one place. A later one evicts an earlier one.
+/// Keeps the answers to questions that it was asked, each in one slot. A later one evicts an earlier one.
 #[derive(Drop)]
 pub struct TilingStore {
     decided: FactTable<Decided>,
@@ -23,19 +23,19 @@ pub struct TilingStore {
 impl TilingStore {
     /// An empty store. `NoMemory` if there is not enough memory.
     pub fn new(alloc: Global) -> Result<TilingStore, NoMemory> {
-        TilingStore::with_places(alloc, PLACES)
+        TilingStore::with_room(alloc, ROOM)
     }
 
     /// The same, but a store that keeps nothing if there is not enough memory.
     pub fn within_memory(alloc: Global) -> TilingStore {
         TilingStore {
-            decided: FactTable::within_memory(alloc, PLACES),
+            decided: FactTable::within_memory(alloc, ROOM),
         }
     }
 
     /// An empty store that keeps this many questions, best a power of two. `NoMemory` if there is not enough memory.
-    pub fn with_places(alloc: Global, places: usize) -> Result<TilingStore, NoMemory> {
-        let decided = FactTable::new(alloc, places)?;
+    pub fn with_room(alloc: Global, room: usize) -> Result<TilingStore, NoMemory> {
+        let decided = FactTable::new(alloc, room)?;
         Ok(TilingStore { decided })
     }
 

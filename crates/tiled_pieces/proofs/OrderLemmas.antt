@@ -78,14 +78,14 @@ module _ (tiling : ListedTiling) (weights allowed : List ℕ) (bit : ℕ) (drops
   from_indexes [] F number empty = record { order = []; each = λ k d below. absurd (omega (arith, below)); built = tt; uses_up = empty; permitted = tt }
   from_indexes (i ∷ is) F number goes =
       let of = those.only i goes.0.known in
-      let laid = laid_at tiling of.place in
+      let laid = laid_at tiling of.slot in
       let sum : number + weight_at pieces i ≡ number + slice_index weights (piece_code laid.piece) = ap (λ w. number + w) of.here.weight in
       let rest = from_indexes is (difference F laid.cells) (number + slice_index weights (piece_code laid.piece))
       (subst (λ (G : Field). UsesUp pieces drops allowed bit (difference F G) (number + slice_index weights (piece_code laid.piece)) is) of.here.cells
       (subst (λ n. UsesUp pieces drops allowed bit (difference F (cells_at pieces i)) n is) sum goes.1)) in
       record {
         order = laid ∷ rest.order;
-        each = both laid rest.order (record { index = of.place; known = of.low; there = refl }) rest.each;
+        each = both laid rest.order (record { index = of.slot; known = of.low; there = refl }) rest.each;
         built = (fits_same F drops (record { piece = I; cells = cells_at pieces i }) laid of.here.cells goes.0.fits, rest.built);
         uses_up = rest.uses_up;
         permitted = (ap (λ n. has_bit (slice_index allowed n) bit) (sym sum) ∙ goes.0.permitted, rest.permitted);

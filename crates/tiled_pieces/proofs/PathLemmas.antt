@@ -53,7 +53,7 @@ agree f g (suc n) same =
     ∙ ap₂ (λ l x. l ++ x ∷ []) (agree f g n (λ k below. same k (omega (arith, below)))) (same n (omega arith))
     ∙ sym (map-range_with_len_more g 0 n n (omega arith)) ∙ ap (λ k. map g (range_with_len 0 k)) (sym one)
 
--- the pieces at the first places
+-- the pieces at the first slots
 pub at_first : (tiling after : ListedTiling) (count : ℕ) → ((k : ℕ) → k < count → laid_at after k ≡ laid_at tiling k) → map (laid_at after) (range_with_len 0 count) ≡ map (laid_at tiling) (range_with_len 0 count)
 at_first tiling after count same = agree (laid_at after) (laid_at tiling) count same
 

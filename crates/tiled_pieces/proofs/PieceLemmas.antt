@@ -1,4 +1,4 @@
--- The pieces of a tiling that lie in a set, one place after the other.
+-- The pieces of a tiling that lie in a set, one slot after the other.
 use Rattle.std.proofs.Common.{◌≡◌, ℕ, ◌+◌, ◌*◌, ◌/◌, ◌%◌, ◌^◌, ◌<◌, Bool, true, false, not, ◌&&◌, nat_lt, List, [], ◌∷◌, ◌++◌, length, map, slice_index, refl, sym, ap, subst, ◌∙◌, inl, inr, arith, rules}
 use Rattle.std.proofs.Math.Path.{fun_ext}
 use Rattle.std.proofs.lemmas.Bool.{and_parts, both_ways, cases_eq}
@@ -70,9 +70,9 @@ module _ (tiling : ListedTiling) (E : Field) (weights : List ℕ) (pieces : List
   pub those_passed : (LiesIn (laid_at tiling n).cells E → ⊥) → HasThose tiling E weights pieces (n + 1)
   those_passed none = record {
     only = those.only;
-    all = λ place below lies. elim (cases_eq place n) [
-      | inl same ↦ absurd (none (subst (λ place. LiesIn (laid_at tiling place).cells E) same lies))
-      | inr other ↦ those.all place (omega (arith, below, other)) lies
+    all = λ slot below lies. elim (cases_eq slot n) [
+      | inl same ↦ absurd (none (subst (λ slot. LiesIn (laid_at tiling slot).cells E) same lies))
+      | inr other ↦ those.all slot (omega (arith, below, other)) lies
     ];
   }
 
@@ -87,16 +87,16 @@ module _ (tiling : ListedTiling) (E : Field) (weights : List ℕ) (pieces : List
   pub those_added : (x : Laid) → n < most_pieces → field_of x.cells ≡ (laid_at tiling n).cells → x.weight ≡ slice_index weights (piece_code (laid_at tiling n).piece) → HasThose tiling E weights (pieces ++ x ∷ []) (n + 1)
   those_added x low cells weight = record {
     only = λ j known. elim (cases_eq j (length pieces)) [
-      | inl same ↦ record { place = n; low = low; here = subst (IsAt weights (pieces ++ x ∷ []) (laid_at tiling n)) (sym same) last }
+      | inl same ↦ record { slot = n; low = low; here = subst (IsAt weights (pieces ++ x ∷ []) (laid_at tiling n)) (sym same) last }
       | inr other ↦
           let of = those.only j (omega (arith, known, other, longer pieces x)) in
-          record { place = of.place; low = of.low; here = stays weights pieces x (laid_at tiling of.place) j of.here }
+          record { slot = of.slot; low = of.low; here = stays weights pieces x (laid_at tiling of.slot) j of.here }
     ];
-    all = λ place below lies. elim (cases_eq place n) [
-      | inl same ↦ subst (λ place. HasLaid weights (pieces ++ x ∷ []) (laid_at tiling place)) (sym same) (record { index = length pieces; here = last })
+    all = λ slot below lies. elim (cases_eq slot n) [
+      | inl same ↦ subst (λ slot. HasLaid weights (pieces ++ x ∷ []) (laid_at tiling slot)) (sym same) (record { index = length pieces; here = last })
       | inr other ↦
-          let has = those.all place (omega (arith, below, other)) lies in
-          record { index = has.index; here = stays weights pieces x (laid_at tiling place) has.index has.here }
+          let has = those.all slot (omega (arith, below, other)) lies in
+          record { index = has.index; here = stays weights pieces x (laid_at tiling slot) has.index has.here }
     ];
   }
     where
@@ -104,7 +104,7 @@ module _ (tiling : ListedTiling) (E : Field) (weights : List ℕ) (pieces : List
       last = is_last x cells weight
 
 pub those_start : (tiling : ListedTiling) (E : Field) (weights : List ℕ) → HasThose tiling E weights [] 0
-those_start tiling E weights = record { only = λ j known. absurd (omega (arith, known)); all = λ place below lies. absurd (omega (arith, below)) }
+those_start tiling E weights = record { only = λ j known. absurd (omega (arith, known)); all = λ slot below lies. absurd (omega (arith, below)) }
 
 -- the cells that a number stands for
 pub field_is : (E : Field) (n : ℕ) → ((x y : ℕ) → E x y ≡ (nat_lt y 8 && has_bit n (8 * x + y))) → field_of n ≡ E

@@ -122,7 +122,7 @@ grows_same pieces more number Such Same grows both = search rules
 
 -- ---- the indexes of a tiling, and the tilings of a list
 
--- one of the first places has the piece
+-- one of the first slots has the piece
 pub record HasBefore (tiling : ListedTiling) (laid : LaidPiece) (end : ℕ) : Type 0 where
   pub index : ℕ
   pub below : index < end

@@ -92,11 +92,11 @@ pub record HasLaid (weights : List ℕ) (pieces : List Laid) (laid : LaidPiece) 
 
 -- a piece of a tiling is at an index
 pub record IsOf (tiling : ListedTiling) (weights : List ℕ) (pieces : List Laid) (j : ℕ) : Type 0 where
-  pub place : ℕ
-  pub low : place < most_pieces
-  pub here : IsAt weights pieces (laid_at tiling place) j
+  pub slot : ℕ
+  pub low : slot < most_pieces
+  pub here : IsAt weights pieces (laid_at tiling slot) j
 
--- a list has pieces of a tiling alone, and those of the first n places that lie in a set
+-- a list has pieces of a tiling alone, and those of the first n slots that lie in a set
 pub record HasThose (tiling : ListedTiling) (E : Field) (weights : List ℕ) (pieces : List Laid) (n : ℕ) : Type 0 where
   pub only : (j : ℕ) → j < length pieces → IsOf tiling weights pieces j
-  pub all : (place : ℕ) → place < n → LiesIn (laid_at tiling place).cells E → HasLaid weights pieces (laid_at tiling place)
+  pub all : (slot : ℕ) → slot < n → LiesIn (laid_at tiling slot).cells E → HasLaid weights pieces (laid_at tiling slot)

@@ -38,7 +38,7 @@ laid_at tiling index = record {
   cells = slice_index_or (map empty_cells tiling.cells) index empty_field;
 }
 
--- a listed tiling has a piece at one of its places
+-- a listed tiling has a piece at one of its slots
 pub record HasPiece (tiling : ListedTiling) (laid : LaidPiece) : Type 0 where
   pub index : ℕ
   pub known : index < most_pieces
@@ -60,7 +60,7 @@ pub record HasParts (list : List ListedTiling) (parts : List Part) : Type 0 wher
 pub record ListsAll (E : Field) (supply : Supply) (list : List ListedTiling) : Type 0 where
   pub all : (t : Tiling (all_but E) 8 supply) → HasParts list t.parts
 
--- the pieces of a listed tiling are parts of a tiling of a set of cells; its further places have no cell
+-- the pieces of a listed tiling are parts of a tiling of a set of cells; its further slots have no cell
 pub record IsListed (E : Field) (supply : Supply) (tiling : ListedTiling) : Type 0 where
   pub whole : Tiling (all_but E) 8 supply
   pub each : (index : ℕ) → index < most_pieces → HasNoCell (laid_at tiling index).cells

@@ -8,7 +8,7 @@ use srs::Piece;
 /// The most pieces of a listed tiling.
 pub const MOST_PIECES: usize = 9;
 
-/// A tiling: the kind and the cells of each of its pieces. The places past the last piece have no cells.
+/// A tiling: the kind and the cells of each of its pieces. The slots past the last piece have no cells.
 #[derive(Clone, Copy)]
 pub struct ListedTiling {
     pub(crate) kinds: [Piece; MOST_PIECES],

@@ -25,7 +25,7 @@ use std::alloc::Global;
 use std::mem;
 
 /// How many questions a lister keeps.
-const PLACES: usize = 32_768;
+const ROOM: usize = 32_768;
 
 /// Lists all tilings, and keeps which questions have none.
 #[derive(Drop)]
@@ -51,7 +51,7 @@ impl Lister {
     /// A lister that knows nothing yet. If there is not enough memory for it, it keeps nothing.
     pub fn new(alloc: Global) -> Lister {
         Lister {
-            known: FactTable::within_memory(alloc, PLACES),
+            known: FactTable::within_memory(alloc, ROOM),
             listing: Listing::new(alloc, 0, false),
         }
     }

@@ -1,4 +1,4 @@
--- One more place.
+-- One more slot.
 use Rattle.std.proofs.Common.{◌≡◌, ◌<◌, length, slice_index, take, refl, sym, ap, subst, ◌∙◌, arith}
 use Rattle.std.proofs.lemmas.Bool.{both_ways}
 use Rattle.std.proofs.lemmas.List.{length-set, take_more_set}

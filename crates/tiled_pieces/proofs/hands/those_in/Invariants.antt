@@ -1,4 +1,4 @@
--- The places so far.
+-- The slots so far.
 use Rattle.std.proofs.Common.{◌≡◌, ◌≤◌, length, take}
 use Rattle.tiled_pieces.specs.Orders.{HasThose}
 use Rattle.tiled_pieces.specs.TilingLists.{most_pieces}

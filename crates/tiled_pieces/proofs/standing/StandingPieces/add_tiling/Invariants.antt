@@ -1,4 +1,4 @@
--- The pieces at the places so far are added.
+-- The pieces at the slots so far are added.
 use Rattle.std.proofs.Common.{◌≡◌}
 use Rattle.tiled_pieces.specs.Standing.{GrowsBy}
 use Rattle.tiled_pieces.proofs.StandingLemmas.{HasBefore}
