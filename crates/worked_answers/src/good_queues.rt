@@ -2,7 +2,8 @@
 ghost use Rattle.std.specs.Prelude.{◌≡◌, ◌<◌};
 ghost use Rattle.problem.specs.Problem.{IsFit};
 
-use crate::questions::{Question, is_so, problem};
+use crate::questions::{Question, is_so, problem, problem_by};
+use crate::small_fields::{SMALL_FIELDS, WAYS};
 use hold_queue::Hold;
 use percent::{Answers, rate, solvable};
 use problem::Problem;
@@ -54,6 +55,19 @@ fn queues_alone_and_all_queues_say_the_same(rt: HostRuntime) {
         let asked = problem(&rt, question);
         let found = good_count::<Brand>(rt.alloc(), Blank::new(1), &asked);
         is_so(&rt, found == Some(*good), question.2);
+    }
+}
+
+#[test]
+fn small_fields_in_each_way(rt: HostRuntime) {
+    for (rows, height, pattern, held, counts) in SMALL_FIELDS {
+        for number in 0..16 {
+            let (hold, is_held, drop_mode, kicks) = WAYS[number];
+            let way = (hold, is_held.then_some(*held), drop_mode, kicks);
+            let asked = problem_by(&rt, rows.as_bytes(), *height, pattern, &way);
+            let found = good_count::<Brand>(rt.alloc(), Blank::new(1), &asked);
+            assert!(rt; found == Some(counts[number]), "{rows} in way {number}");
+        }
     }
 }
 

@@ -17,3 +17,5 @@ mod longest_runs;
 mod questions;
 #[cfg(test)]
 mod searches;
+#[cfg(test)]
+mod small_fields;

@@ -6,6 +6,8 @@ mod combos;
 #[cfg(test)]
 mod covers;
 #[cfg(test)]
+mod failed_queues;
+#[cfg(test)]
 mod fields;
 #[cfg(test)]
 mod floods;
