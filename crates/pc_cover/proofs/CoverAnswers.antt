@@ -20,7 +20,7 @@ use Rattle.pc_faults.proofs.CallerLemmas.{first_stops, inner_first}
 use Rattle.pc_settings.specs.Request.{FieldRequest}
 use Rattle.pc_source.specs.Ends.{CommandEnds}
 use Rattle.pc_source.specs.FieldTask.{its_rest}
-use Rattle.pc_source.specs.FieldText.{dash}
+use Rattle.pc_source.specs.FieldText.{itself}
 use Rattle.pc_source.specs.Had.{HasProblem, IsRefusedInput}
 use Rattle.pc_source.specs.ProblemFaults.{problem_fault, request_fault}
 use Rattle.pc_source.specs.Sink.{SinkChange}
@@ -81,13 +81,13 @@ module _ (request : FieldRequest) (F : Field) (bytes : List ℕ) (needed : ℕ) 
 
 module _ (request : FieldRequest) (bytes : List ℕ) (sink : SinkChange) (Kept : Type 0) (before now : ℕ) where
   -- it is refused
-  pub problem_refused : (r : Refused Fault) (status : Status) → status ≡ refused_status r → Kept → now ≡ before → IsRefusedInput (request_fault request dash) r → CommandEnds (cover_task request) bytes sink Kept before now status
+  pub problem_refused : (r : Refused Fault) (status : Status) → status ≡ refused_status r → Kept → now ≡ before → IsRefusedInput (request_fault request itself) r → CommandEnds (cover_task request) bytes sink Kept before now status
   problem_refused r status same kept idle is =
       ends_refused (cover_task request) bytes sink Kept before now r status same kept idle (λ _. reads-something)
-      (refusal_before (request_fault request dash) (cover_fault request bytes) r (request_first its_rest request (covering_fault request) bytes (λ F. problem_first request F bytes)) is)
+      (refusal_before (request_fault request itself) (cover_fault request bytes) r (request_first its_rest request (covering_fault request) bytes (λ F. problem_first request F bytes)) is)
 
   -- it is had, and the run ends as what is asked about its field
-  pub cover_ends : (problem : Problem) → HasProblem request dash problem → (status : Status) → CommandEnds (covering_task request (filled problem.well)) bytes sink Kept before now status
+  pub cover_ends : (problem : Problem) → HasProblem request itself problem → (status : Status) → CommandEnds (covering_task request (filled problem.well)) bytes sink Kept before now status
       → CommandEnds (cover_task request) bytes sink Kept before now status
   cover_ends problem has =
       field_had its_rest request.field request.page true (covering_task request) bytes sink Kept before now (filled problem.well) has.field (λ none. none) (λ _. refl)

@@ -11,7 +11,7 @@ use Rattle.pc_outside.specs.declared.answers.Refused.{Refused}
 use Rattle.pc_outside.specs.declared.answers.Refused.TheVariants as refused
 use Rattle.pc_faults.specs.declared.fault.Fault.{Fault}
 use Rattle.pc_settings.specs.Request.{PercentRequest}
-use Rattle.pc_source.specs.FieldText.{field_needs}
+use Rattle.pc_source.specs.FieldText.{field_needs, of_source}
 use Rattle.pc_source.specs.Task.{nothing}
 use Rattle.pc_source.specs.Had.{HasProblem, IsRefusedInput}
 use Rattle.pc_source.proofs.FieldFaults.{no_request_fault}
@@ -30,9 +30,9 @@ module _ (request : PercentRequest) (bytes : List ℕ) where
   refused_before room floods (refused.Fault fault) none is needed = (is, none)
   refused_before room floods refused.NoMemory none is needed = inl (needed refl, none)
 
-  module _ (problem : Problem) (has : HasProblem request.common bytes problem) where
+  module _ (problem : Problem) (has : HasProblem request.common (of_source bytes) problem) where
     pub no_fault : percent_fault request bytes ≡ None
-    no_fault = no_request_fault request.common bytes problem has
+    no_fault = no_request_fault request.common (of_source bytes) problem has
 
     module _ (count : ℕ) (all : count ≡ length (queues (elements_of problem.pattern))) where
       asks : AsksQueues request.common count

@@ -7,7 +7,7 @@ use Rattle.queue_pattern.specs.Queues.{queues}
 use Rattle.problem.specs.declared.problem.Problem.{Problem}
 use Rattle.percent.specs.Good.{Good}
 use Rattle.pc_settings.specs.Request.{FieldRequest}
-use Rattle.pc_source.specs.FieldText.{IsFieldOf}
+use Rattle.pc_source.specs.FieldText.{IsFieldOf, of_source}
 use Rattle.pc_source.specs.Problem.{IsProblemOf}
 use Rattle.pc_good_queues.specs.Bits.{AreBitsOf}
 
@@ -15,7 +15,7 @@ use Rattle.pc_good_queues.specs.Bits.{AreBitsOf}
 -- good, and how many there are, and how many good ones.
 pub record AreGoodQueues (request : FieldRequest) (bytes written : List ℕ) (count good : ℕ) : Type 0 where
   pub field : Field
-  pub asked : IsFieldOf request.field request.page bytes field
+  pub asked : IsFieldOf request.field request.page (of_source bytes) field
   pub problem : Problem
   pub named : IsProblemOf request field problem
   pub is_good : List Piece → Bool

@@ -8,7 +8,7 @@ ghost use Rattle.enumerate.specs.Items.{items_of};
 ghost use Rattle.pc_outside.specs.declared.answers.Refused.{Refused};
 ghost use Rattle.pc_settings.specs.Request.{IsInRange};
 ghost use Rattle.pc_settings.specs.Views.{path_view};
-ghost use Rattle.pc_source.specs.FieldText.{field_needs};
+ghost use Rattle.pc_source.specs.FieldText.{field_needs, of_source};
 ghost use Rattle.pc_source.specs.Had.{HasProblem, IsRefusedInput};
 ghost use Rattle.pc_source.specs.Task.{nothing};
 ghost use Rattle.pc_path.specs.Faults.{after_fault, listing_fault, path_fault};
@@ -53,7 +53,8 @@ pub fn listing_of(
     bytes: &[u8],
 ) -> Result<Listing, Refused<Fault>>
     requires { IsInRange (path_view settings.now).common }
-    ensures problem { IfOk result (λ listing. HasProblem (path_view settings.now).common bytes.now listing.problem) }
+    ensures problem { IfOk result (λ listing. HasProblem (path_view settings.now).common (of_source bytes.now)
+        listing.problem) }
     ensures fit { IfOk result (λ listing. IsFit listing.problem) }
     ensures none { IfOk result (λ listing.
         listing_fault (path_view settings.now) (filled listing.problem.well) ≡ None) }

@@ -5,7 +5,7 @@ use Rattle.srs.specs.declared.placement.Placement.{Placement}
 use Rattle.placement_numbers.specs.Numbers.{AreNumbersOf}
 use Rattle.problem.specs.declared.problem.Problem.{Problem}
 use Rattle.problem.specs.Problem.{needed_of}
-use Rattle.pc_source.specs.FieldText.{IsFieldOf}
+use Rattle.pc_source.specs.FieldText.{IsFieldOf, of_source}
 use Rattle.pc_source.specs.Problem.{IsProblemOf}
 use Rattle.pc_settings.specs.Request.{PathRequest}
 use Rattle.pc_path.specs.Faults.{path_fault}
@@ -15,7 +15,7 @@ use Rattle.pc_path.specs.Output.{IsGiven}
 pub record IsAsked (request : PathRequest) (bytes : List ℕ) (problem : Problem) : Type 0 where
   pub none : path_fault request bytes ≡ None
   pub field : Field
-  pub asked : IsFieldOf request.common.field request.common.page bytes field
+  pub asked : IsFieldOf request.common.field request.common.page (of_source bytes) field
   pub named : IsProblemOf request.common field problem
 
 -- the sequence of so many placements that numbers give, or where there are no numbers, what the value of `--after`

@@ -1,5 +1,5 @@
 -- What crates above cite: faults of texts, fields, problems, and what calls answer and add to the counter of floods.
-use Rattle.std.proofs.Common.{◌≡◌, ◌≢◌, ℕ, ◌-◌, ◌<◌, ◌≤◌, length, List, Bool, true, false, Option, Some, None, Result, Ok, Err, refl, sym, subst, ap, arith, inl}
+use Rattle.std.proofs.Common.{◌≡◌, ◌≢◌, ◌∙◌, ℕ, ◌-◌, ◌<◌, ◌≤◌, length, List, Bool, true, false, Option, Some, None, Result, Ok, Err, refl, sym, subst, ap, arith, inl}
 use Rattle.std.proofs.lemmas.Bool.{lt-ltb, le-ltb}
 use Rattle.lane_board.specs.Field.{Field}
 use Rattle.fumen_digits.specs.Framing.{digits_in}
@@ -18,7 +18,7 @@ use Rattle.pc_faults.specs.Codes.{refused_status, written_status}
 use Rattle.pc_settings.specs.Request.{FieldText, fumen_text, rows_text}
 use Rattle.pc_source.specs.Answers.{IsAnswered}
 use Rattle.pc_source.specs.Faults.{cells_asked, cells_read, field_fault, text_fault}
-use Rattle.pc_source.specs.FieldText.{IsFieldOf, IsFumenField, field_needs, is_dash, text_given}
+use Rattle.pc_source.specs.FieldText.{DashText, IsFieldOf, IsFumenField, field_needs, is_dash, itself, of_source, text_given}
 use Rattle.pc_source.specs.Had.{HasText, IsRefusedInput}
 use Rattle.pc_source.specs.Sink.{SinkChange}
 use Rattle.pc_source.specs.Task.{Needs, Task, first_fault, is_source, memory, most_bytes, nothing, source_bytes, source_fault}
@@ -119,14 +119,18 @@ unfolding first_fault
 not_too_long task bytes within = second_left (source_fault task.needs bytes) (task.fault bytes) (fits task.needs bytes within)
 
 -- the text of a word that isn't the source's
-own_text : (word one other : List ℕ) → is_source (field_needs (fumen_text word)) ≡ false → text_given word one ≡ text_given word other
-own_text word one other = by (is_dash word) refl where
-  by : (b : Bool) → is_dash word ≡ b → is_source (field_needs (fumen_text word)) ≡ false → text_given word one ≡ text_given word other
+own_word : (word : List ℕ) (meant : DashText) → is_source (field_needs (fumen_text word)) ≡ false → text_given word meant ≡ word
+own_word word itself own = refl
+own_word word (of_source bytes) own = by (is_dash word) refl own where
+  by : (b : Bool) → is_dash word ≡ b → is_source (field_needs (fumen_text word)) ≡ false → text_given word (of_source bytes) ≡ word
   by true is own = let h : is_source (field_needs (fumen_text word)) ≡ true = rw (is) refl in cc
   by false is own = rw (is) refl
 
--- where the field is not that of the source, its bytes do not matter
-module _ (number : ℕ) (one other : List ℕ) where
+own_text : (word : List ℕ) (one other : DashText) → is_source (field_needs (fumen_text word)) ≡ false → text_given word one ≡ text_given word other
+own_text word one other own = own_word word one own ∙ sym (own_word word other own)
+
+-- where the field is not that of the source, what `-` stands for does not matter
+module _ (number : ℕ) (one other : DashText) where
   pub fault_unread : (field : FieldText) → is_source (field_needs field) ≡ false → field_fault field number one ≡ field_fault field number other
   fault_unread (rows_text text) own = refl
   fault_unread (fumen_text word) own = ap (text_fault (Some number)) (own_text word one other own)

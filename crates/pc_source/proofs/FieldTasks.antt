@@ -13,7 +13,7 @@ use Rattle.pc_settings.specs.Request.{FieldText}
 use Rattle.pc_source.specs.Answers.{IsAnswered}
 use Rattle.pc_source.specs.Ends.{CommandEnds}
 use Rattle.pc_source.specs.Faults.{cells_asked, field_fault}
-use Rattle.pc_source.specs.FieldTask.{SourceOf, asked_needs, field_task, fault_by_field, rest_bytes, dash_text}
+use Rattle.pc_source.specs.FieldTask.{SourceOf, asked_needs, field_task, fault_after_field, rest_bytes, dash_text}
 use Rattle.pc_source.specs.Had.{HasField, IsRefusedInput}
 use Rattle.pc_source.specs.Sink.{SinkChange}
 use Rattle.pc_source.specs.Task.{Task, nothing}
@@ -91,5 +91,5 @@ module _ (source : SourceOf) (text : FieldText) (page : ℕ) (memory_first : Boo
 
   -- no fault of the words, and none that the source is too long
   pub inner_of_field : ((F : Field) → IsInner ((rest F).fault (rest_bytes source bytes))) → IsInner (whole.fault bytes)
-  unfolding fault_by_field
+  unfolding fault_after_field
   inner_of_field inner = inner_first _ _ (inner_field text page (dash_text source bytes)) (inner_first _ [] (inner (cells_asked text page (dash_text source bytes))) tt)

@@ -11,14 +11,15 @@ use Rattle.pc_faults.specs.Inner.{IsInner}
 use Rattle.pc_faults.proofs.CallerLemmas.{inner_first, inner_map, inner_test}
 use Rattle.pc_settings.specs.Request.{FieldRequest, FieldText, rows_text, fumen_text}
 use Rattle.pc_source.specs.Faults.{field_fault, text_fault}
+use Rattle.pc_source.specs.FieldText.{DashText}
 use Rattle.pc_source.specs.ProblemFaults.{elements_asked, full_row_fault, pattern_fault, pieces_fault, problem_fault, filled_rows_fault, too_few}
 
 pub inner_text : (asked : Option ℕ) (text : List ℕ) → IsInner (text_fault asked text)
 unfolding text_fault
 inner_text asked text = search rules
 
-pub inner_field : (field : FieldText) (number : ℕ) (bytes : List ℕ) → IsInner (field_fault field number bytes)
-inner_field field number bytes = search (rules, rows_text, inner_map, fumen_text, inner_text)
+pub inner_field : (field : FieldText) (number : ℕ) (meant : DashText) → IsInner (field_fault field number meant)
+inner_field field number meant = search (rules, rows_text, inner_map, fumen_text, inner_text)
 
 -- ---- of what is asked about a field
 

@@ -10,7 +10,7 @@ use Rattle.pc_faults.specs.declared.fault.Fault.{Fault}
 use Rattle.pc_faults.specs.declared.fault.Fault.TheVariants as faults
 use Rattle.pc_faults.specs.FirstFault.{first_of_these}
 use Rattle.pc_settings.specs.Request.{FieldText, fumen_text, rows_text}
-use Rattle.pc_source.specs.FieldText.{page_cells, text_given}
+use Rattle.pc_source.specs.FieldText.{DashText, page_cells, text_given}
 
 abbrev pub pages_fault : Result (Dialect × List Page) FumenFault → Option Fault
 pages_fault (Ok pages) = None
@@ -30,8 +30,8 @@ asked_fault asked (Err fault) = None
 unfoldable pub text_fault : Option ℕ → List ℕ → Option Fault
 text_fault asked text = first_of_these (pages_fault (text_pages text) ∷ asked_fault asked (text_pages text) ∷ [])
 
--- the text of the field, and the page where it is a fumen's, where `-` stands for the text `meant`
-abbrev pub field_fault : FieldText → ℕ → List ℕ → Option Fault
+-- the text of the field, and the page where it is a fumen's
+abbrev pub field_fault : FieldText → ℕ → DashText → Option Fault
 field_fault (rows_text text) number meant = option_map (λ fault. faults.Rows fault) (rows_fault text)
 field_fault (fumen_text word) number meant = text_fault (Some number) (text_given word meant)
 
@@ -47,6 +47,6 @@ cells_read number (Err fault) = empty_field
 
 -- The cells of the field, where its text has no fault. The law `fields_are_read_as_they_are_asked` says that they are
 -- those of `IsFieldOf`.
-abbrev pub cells_asked : FieldText → ℕ → List ℕ → Field
+abbrev pub cells_asked : FieldText → ℕ → DashText → Field
 cells_asked (rows_text text) number meant = written_cells text
 cells_asked (fumen_text word) number meant = cells_read number (text_pages (text_given word meant))

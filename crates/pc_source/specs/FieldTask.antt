@@ -5,7 +5,7 @@ use Rattle.pc_faults.specs.declared.fault.Fault.{Fault}
 use Rattle.pc_faults.specs.FirstFault.{first_of_these}
 use Rattle.pc_settings.specs.Request.{FieldText}
 use Rattle.pc_source.specs.Faults.{cells_asked, field_fault}
-use Rattle.pc_source.specs.FieldText.{IsFieldOf, dash, field_needs}
+use Rattle.pc_source.specs.FieldText.{DashText, IsFieldOf, field_needs, itself, of_source}
 use Rattle.pc_source.specs.Task.{Needs, Task, source_bytes}
 
 -- what the source has: the text of the field, where that is `-`, or what is asked about the field
@@ -13,10 +13,10 @@ pub data SourceOf : Type 0 where
   its_field : SourceOf
   its_rest : SourceOf
 
--- the text that `-` stands for, where the source has these bytes: itself, where they are the rest
-abbrev pub dash_text : SourceOf → List ℕ → List ℕ
-dash_text its_field bytes = bytes
-dash_text its_rest bytes = dash
+-- what `-` stands for, where the source has these bytes
+abbrev pub dash_text : SourceOf → List ℕ → DashText
+dash_text its_field bytes = of_source bytes
+dash_text its_rest bytes = itself
 
 -- the bytes of the source for the rest
 abbrev pub rest_bytes : SourceOf → List ℕ → List ℕ
@@ -27,20 +27,23 @@ abbrev pub asked_needs : SourceOf → FieldText → Needs
 asked_needs its_field text = field_needs text
 asked_needs its_rest text = source_bytes
 
--- This holds of the field that a text gives, with the number of the page where it is a fumen's, where `-` stands for
--- the text `meant`.
-pub record OfField (text : FieldText) (page : ℕ) (meant : List ℕ) (Holds : Field → Type 0) : Type 0 where
+-- This holds of the field that a text gives, with the number of the page where it is a fumen's.
+pub record OfField (text : FieldText) (page : ℕ) (meant : DashText) (Holds : Field → Type 0) : Type 0 where
   pub field : Field
   pub asked : IsFieldOf text page meant field
   pub holds : Holds field
 
--- The first fault is that of the text of the field, and then that of what is asked about a field with these cells,
--- where the source has these bytes.
-unfoldable pub fault_by_field : SourceOf → FieldText → ℕ → (Field → List ℕ → Option Fault) → List ℕ → Option Fault
-fault_by_field source text page fault bytes = first_of_these (
-    field_fault text page (dash_text source bytes)
-    ∷ fault (cells_asked text page (dash_text source bytes)) (rest_bytes source bytes)
+-- The first fault is that of the text of the field, and then that of what is asked about a field with these cells.
+unfoldable pub fault_after_field : FieldText → ℕ → DashText → (Field → Option Fault) → Option Fault
+fault_after_field text page meant fault = first_of_these (
+    field_fault text page meant
+    ∷ fault (cells_asked text page meant)
     ∷ [])
+
+-- the same where the source has these bytes
+abbrev pub fault_by_field : SourceOf → FieldText → ℕ → (Field → List ℕ → Option Fault) → List ℕ → Option Fault
+fault_by_field source text page fault bytes =
+    fault_after_field text page (dash_text source bytes) (λ F. fault F (rest_bytes source bytes))
 
 -- what is asked about the field that a text gives
 abbrev pub field_task : SourceOf → FieldText → ℕ → Bool → (Field → Task) → Task

@@ -13,16 +13,18 @@ use Rattle.fumen_text.specs.Texts.{ReadsAs}
 use Rattle.pc_source.specs.Task.{Needs, nothing, memory, source_bytes}
 use Rattle.pc_settings.specs.Request.{FieldText, rows_text, fumen_text}
 
--- the fumen text `-`, which stands for that of the source, or for itself where the source has something else
-abbrev pub dash : List ℕ
-dash = codes "-"
-
 abbrev pub is_dash : List ℕ → Bool
-is_dash word = bytes_eq word dash
+is_dash word = bytes_eq word (codes "-")
 
--- the text that a word gives, where `-` stands for the text `meant`
-abbrev pub text_given : List ℕ → List ℕ → List ℕ
-text_given word meant = if is_dash word then meant else word
+-- what the fumen text `-` stands for: the text of the source, or itself where the source has something else
+pub data DashText : Type 0 where
+  of_source : List ℕ → DashText
+  itself : DashText
+
+-- the text that a word gives
+abbrev pub text_given : List ℕ → DashText → List ℕ
+text_given word (of_source bytes) = if is_dash word then bytes else word
+text_given word itself = word
 
 -- the cells of rows 0 to 22 that aren't empty, of whatever colour; the garbage row is no part of them
 unfoldable pub page_cells : Page → Field
@@ -41,9 +43,8 @@ pub record IsFumenField (text : List ℕ) (number : ℕ) (F : Field) : Type 0 wh
   pub reads : ReadsAs text dialect pages
   pub field : IsPageField pages number F
 
--- the field that is asked about, with the number of the page where it is a fumen's, where `-` stands for the text
--- `meant`
-abbrev pub IsFieldOf : FieldText → ℕ → List ℕ → Field → Type 0
+-- the field that is asked about, with the number of the page where it is a fumen's
+abbrev pub IsFieldOf : FieldText → ℕ → DashText → Field → Type 0
 IsFieldOf (rows_text text) number meant F = F ≡ written_cells text
 IsFieldOf (fumen_text word) number meant F = IsFumenField (text_given word meant) number F
 
@@ -56,7 +57,7 @@ abbrev pub field_needs : FieldText → Needs
 field_needs (rows_text text) = nothing
 field_needs (fumen_text word) = if is_dash word then source_bytes else text_needs word
 
--- a prefix stands in the fumen text of the field, where `-` stands for the text `meant`
-abbrev pub HasPrefix : FieldText → List ℕ → Type 0
+-- a prefix stands in the fumen text of the field
+abbrev pub HasPrefix : FieldText → DashText → Type 0
 HasPrefix (rows_text text) meant = ⊥
 HasPrefix (fumen_text word) meant = digits_in (text_given word meant) ≢ None

@@ -16,7 +16,7 @@ use Rattle.pc_faults.specs.declared.fault.Fault.TheVariants.{SourceTooLong}
 use Rattle.pc_faults.specs.declared.status.Status.{Status}
 use Rattle.pc_faults.specs.declared.status.Status.TheVariants.{Input, SourceFault, NoMemory}
 use Rattle.pc_settings.specs.Request.{FieldRequest, FieldText}
-use Rattle.pc_source.specs.FieldText.{IsFumenField, IsFieldOf, dash}
+use Rattle.pc_source.specs.FieldText.{DashText, IsFumenField, IsFieldOf, itself, of_source}
 use Rattle.pc_source.specs.Faults.{field_fault, text_fault}
 use Rattle.pc_source.specs.Problem.{IsProblemOf}
 use Rattle.pc_source.specs.ProblemFaults.{problem_fault}
@@ -50,19 +50,17 @@ pub record HasFumenField (text : List ℕ) (number : ℕ) (F : Field) : Type 0 w
   pub none : text_fault (Some number) text ≡ None
   pub is : IsFumenField text number F
 
--- the text that `-` stands for
-abbrev pub dash_view : Dash → List ℕ
-dash_view (Source bytes) = bytes.now
-dash_view Itself = dash
+abbrev pub dash_view : Dash → DashText
+dash_view (Source bytes) = of_source bytes.now
+dash_view Itself = itself
 
--- the field is had, where `-` stands for the text `meant`: the field's text has no fault
-pub record HasField (field : FieldText) (number : ℕ) (meant : List ℕ) (F : Field) : Type 0 where
+-- the field is had: the field's text has no fault
+pub record HasField (field : FieldText) (number : ℕ) (meant : DashText) (F : Field) : Type 0 where
   pub none : field_fault field number meant ≡ None
   pub is : IsFieldOf field number meant F
 
--- the problem that is asked for is had, where `-` stands for the text `meant`: neither the text of its field nor what
--- is asked about this field has a fault
-pub record HasProblem (request : FieldRequest) (meant : List ℕ) (problem : Problem) : Type 0 where
+-- the problem that is asked for is had: neither the text of its field nor what is asked about this field has a fault
+pub record HasProblem (request : FieldRequest) (meant : DashText) (problem : Problem) : Type 0 where
   pub field : HasField request.field request.page meant (filled problem.well)
   pub none : problem_fault request (filled problem.well) ≡ None
   pub named : IsProblemOf request (filled problem.well) problem

@@ -12,7 +12,8 @@ use Rattle.pc_faults.specs.declared.fault.Fault.{Fault}
 use Rattle.pc_faults.specs.declared.fault.Fault.TheVariants as faults
 use Rattle.pc_faults.specs.FirstFault.{first_of_these}
 use Rattle.pc_settings.specs.Request.{FieldRequest}
-use Rattle.pc_source.specs.FieldTask.{fault_by_field, its_field}
+use Rattle.pc_source.specs.FieldTask.{fault_after_field}
+use Rattle.pc_source.specs.FieldText.{DashText}
 
 -- the lowest full row
 abbrev pub full_row_fault : Field → Option Fault
@@ -52,6 +53,6 @@ problem_fault request F = first_of_these (
     ∷ pieces_fault (empties_below F request.height) (held_count request.hold request.held) (elements_asked request)
     ∷ [])
 
--- the text of the field, where `-` stands for the text `meant`, and then what is asked about the field
-abbrev pub request_fault : FieldRequest → (meant : List ℕ) → Option Fault
-request_fault request = fault_by_field its_field request.field request.page (λ F bytes. problem_fault request F)
+-- the text of the field, and then what is asked about the field
+abbrev pub request_fault : FieldRequest → DashText → Option Fault
+request_fault request meant = fault_after_field request.field request.page meant (problem_fault request)

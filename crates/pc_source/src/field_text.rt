@@ -1,12 +1,12 @@
 // The field that is asked about: a rows text, or a page of a fumen text.
-ghost use Rattle.std.specs.Prelude.{◌≡◌, ◌≢◌, ◌≤◌, [], Err, None, Some, IfOk, IfErr};
+ghost use Rattle.std.specs.Prelude.{◌≡◌, ◌≢◌, ◌≤◌, Err, None, Some, IfOk, IfErr};
 ghost use Rattle.well.specs.Well.{filled};
 ghost use Rattle.fumen_digits.specs.Framing.{digits_in};
 ghost use Rattle.pc_outside.specs.declared.answers.Refused.{Refused};
 ghost use Rattle.pc_settings.specs.Request.{rows_text};
 ghost use Rattle.pc_settings.specs.Views.{text_view};
 ghost use Rattle.pc_source.specs.Faults.{field_fault, text_fault};
-ghost use Rattle.pc_source.specs.FieldText.{HasPrefix, field_needs, text_given};
+ghost use Rattle.pc_source.specs.FieldText.{HasPrefix, field_needs, itself, text_given};
 ghost use Rattle.pc_source.specs.Had.{HasField, HasFumenField, IsRefusedInput, dash_view};
 ghost use Rattle.pc_source.specs.Task.{is_source, nothing};
 
@@ -67,8 +67,8 @@ pub fn is_of_source(words: FieldWords<'_>) -> bool
 }
 
 fn rows_field(text: &str) -> Result<Well, Fault>
-    ensures field { IfOk result (λ well. HasField (rows_text text.now) 1 [] (filled well)) }
-    ensures fault { IfErr result (λ fault. field_fault (rows_text text.now) 1 [] ≡ Some fault) }
+    ensures field { IfOk result (λ well. HasField (rows_text text.now) 1 itself (filled well)) }
+    ensures fault { IfErr result (λ fault. field_fault (rows_text text.now) 1 itself ≡ Some fault) }
 {
     match Well::from_rows(text.as_bytes()) {
         Ok(well) => Ok(well),
@@ -77,7 +77,6 @@ fn rows_field(text: &str) -> Result<Well, Fault>
 }
 
 /// The text that a word gives.
-#[tactic(auto, using(crate::proofs::FieldLaws::itself_given))]
 fn text_given<'a>(word: &'a str, dash: Dash<'a>) -> &'a [u8]
     ensures { result.now ≡ text_given word.entry.now (dash_view dash.entry) }
 {

@@ -9,14 +9,14 @@ ghost use Rattle.fumen_text.specs.Texts.{ReadsAs};
 ghost use Rattle.pc_faults.specs.declared.fault.Fault.TheVariants.{Fumen};
 ghost use Rattle.pc_settings.specs.Request.{FieldText, fumen_text};
 ghost use Rattle.pc_source.specs.Faults.{cells_asked, field_fault, page_fault, text_fault};
-ghost use Rattle.pc_source.specs.FieldText.{IsFieldOf, text_given};
+ghost use Rattle.pc_source.specs.FieldText.{DashText, IsFieldOf, text_given};
 
 /// A text of the field without a fault asks for exactly one field: the one whose cells the later faults are about.
 pub fn fields_are_read_as_they_are_asked()
-    ensures there { (field : FieldText) (number : ℕ) (meant : List ℕ) → 1 ≤ number
+    ensures there { (field : FieldText) (number : ℕ) (meant : DashText) → 1 ≤ number
         → field_fault field number meant ≡ None
         → IsFieldOf field number meant (cells_asked field number meant) }
-    ensures only { (field : FieldText) (number : ℕ) (meant : List ℕ) (F : Field) → IsFieldOf field number meant F
+    ensures only { (field : FieldText) (number : ℕ) (meant : DashText) (F : Field) → IsFieldOf field number meant F
         → cells_asked field number meant ≡ F }
 {}
 
@@ -33,10 +33,10 @@ pub fn text_faults_are_those_of_the_text()
 /// The fault of a fumen text that gives the field, in the source or in a word, is the one fault of this text, or else
 /// that the pages that it reads as don't have the page that is asked for.
 pub fn field_faults_are_those_of_the_text()
-    ensures text { (word : List ℕ) (number : ℕ) (meant : List ℕ) (fault : FumenFault)
+    ensures text { (word : List ℕ) (number : ℕ) (meant : DashText) (fault : FumenFault)
         → IsTextFault (text_given word meant) fault
         → field_fault (fumen_text word) number meant ≡ Some (Fumen fault) }
-    ensures page { (word : List ℕ) (number : ℕ) (meant : List ℕ) (dialect : Dialect) (pages : List Page)
+    ensures page { (word : List ℕ) (number : ℕ) (meant : DashText) (dialect : Dialect) (pages : List Page)
         → ReadsAs (text_given word meant) dialect pages
         → field_fault (fumen_text word) number meant ≡ page_fault (Some number) pages }
 {}

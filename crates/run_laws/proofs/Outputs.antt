@@ -48,10 +48,10 @@ use Rattle.sequence_text.specs.Form.{Spells}
 use Rattle.pc_faults.specs.declared.fault.Fault.TheVariants as faults
 use Rattle.pc_settings.specs.Request.{ComboRequest, FieldRequest, FieldText, IsInRange, PathRequest, PercentRequest}
 use Rattle.pc_source.specs.Faults.{cells_asked, field_fault, page_fault, text_fault}
-use Rattle.pc_source.specs.FieldText.{IsFieldOf}
+use Rattle.pc_source.specs.FieldText.{DashText, IsFieldOf}
 use Rattle.pc_source.specs.ProblemFaults.{full_row_fault, pattern_fault, problem_fault}
 use Rattle.pc_path.specs.Faults.{after_fault, listing_fault, path_fault}
-use Rattle.pc_source.specs.FieldTask.{SourceOf, fault_by_field, field_task, its_field, its_rest, rest_bytes, dash_text}
+use Rattle.pc_source.specs.FieldTask.{SourceOf, fault_after_field, field_task, its_field, its_rest, rest_bytes, dash_text}
 use Rattle.pc_source.specs.Task.{Task}
 use Rattle.pc_path.specs.Formats.{solution_form, takes_memory_first}
 use Rattle.pc_path.specs.Output.{IsGiven, IsReportOf, stats_form}
@@ -82,7 +82,7 @@ use Rattle.run_laws.proofs.Wells.{LiesInWell, well-made}
 pub record Known : Type 0 where
   pub tables : (text : List ℕ) (read : Result Table KickFault) → (kick_text text ≡ read) ↔ IsReadAs text read
   pub rows : (text : List ℕ) → (rows_fault text ≡ None) ↔ IsRowsText text
-  pub fields : (field : FieldText) (number : ℕ) (bytes : List ℕ) → 1 ≤ number → field_fault field number bytes ≡ None → IsFieldOf field number bytes (cells_asked field number bytes)
+  pub fields : (field : FieldText) (number : ℕ) (meant : DashText) → 1 ≤ number → field_fault field number meant ≡ None → IsFieldOf field number meant (cells_asked field number meant)
   pub patterns : (text : List ℕ) (es : List Element) → limited (elements text) ≡ Ok es → (pattern : Pattern) × (elements_of pattern ≡ es)
   pub lists : (problem : Problem) (queue : Option (List Piece)) (bound : Option (List Placement)) → IsFit problem
       → (sequences : List (List Placement)) × IsList (record { problem = problem; queue = queue; bound = bound }) sequences
@@ -100,11 +100,11 @@ pub record Has (Outputs : List ℕ → Type 0) : Type 0 where
 
 module _ (known : Known) where
   -- the field and the problem that are asked about
-  pub asked_field : (field : FieldText) (number : ℕ) (bytes : List ℕ) → 1 ≤ number → field_fault field number bytes ≡ None
-      → IsFieldOf field number bytes (cells_asked field number bytes) × LiesInWell (cells_asked field number bytes)
-  asked_field field number bytes page none =
-      let is = known.fields field number bytes page none in
-      (is, field_lies known.rows field number bytes (cells_asked field number bytes) none is)
+  pub asked_field : (field : FieldText) (number : ℕ) (meant : DashText) → 1 ≤ number → field_fault field number meant ≡ None
+      → IsFieldOf field number meant (cells_asked field number meant) × LiesInWell (cells_asked field number meant)
+  asked_field field number meant page none =
+      let is = known.fields field number meant page none in
+      (is, field_lies known.rows field number meant (cells_asked field number meant) none is)
 
   pub asked_problem : (request : FieldRequest) (F : Field) (table : Table) → IsInRange request → LiesInWell F → request.table ≡ Ok table → IsSmallTable table → problem_fault request F ≡ None → Made request F
   asked_problem = problem-made known.patterns
@@ -116,7 +116,7 @@ module _ (known : Known) where
   -- what is asked about the field has an output
   of_field : (source : SourceOf) (text : FieldText) (page : ℕ) (memory_first : Bool) (rest : Field → Task) (bytes : List ℕ) (floods : ℕ) → 1 ≤ page → (field_task source text page memory_first rest).fault bytes ≡ None
       → ((F : Field) → LiesInWell F → (rest F).fault (rest_bytes source bytes) ≡ None → Has ((rest F).IsOutput (rest_bytes source bytes) floods)) → Has ((field_task source text page memory_first rest).IsOutput bytes floods)
-  unfolding fault_by_field
+  unfolding fault_after_field
   of_field source text page memory_first rest bytes floods first none has =
       let F = cells_asked text page (dash_text source bytes) in
       let parts = both_none (field_fault text page (dash_text source bytes)) ((rest F).fault (rest_bytes source bytes)) none in

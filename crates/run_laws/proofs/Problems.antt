@@ -22,7 +22,7 @@ use Rattle.pc_faults.specs.declared.fault.Fault.TheVariants as faults
 use Rattle.pc_faults.specs.FirstFault.{first_of_these}
 use Rattle.pc_settings.specs.Request.{FieldRequest, FieldText, IsInRange, fumen_text, rows_text}
 use Rattle.pc_source.specs.Faults.{field_fault}
-use Rattle.pc_source.specs.FieldText.{IsFieldOf, page_cells}
+use Rattle.pc_source.specs.FieldText.{DashText, IsFieldOf, page_cells}
 use Rattle.pc_source.specs.ProblemFaults as asked
 use Rattle.pc_source.specs.Problem.{IsProblemOf}
 use Rattle.run_laws.proofs.Tables.{rules-made}
@@ -95,9 +95,9 @@ page_lies : (page : Page) → LiesInWell (page_cells page)
 unfolding page_cells rows_below
 page_lies page = search rules
 
-pub field_lies : ((text : List ℕ) → (rows_fault text ≡ None) ↔ IsRowsText text) → (field : FieldText) (number : ℕ) (bytes : List ℕ) (F : Field)
-    → field_fault field number bytes ≡ None → IsFieldOf field number bytes F → LiesInWell F
-field_lies known field number bytes F none is = search (rules, rows_text, text_lies, no_some, fumen_text, page_lies)
+pub field_lies : ((text : List ℕ) → (rows_fault text ≡ None) ↔ IsRowsText text) → (field : FieldText) (number : ℕ) (meant : DashText) (F : Field)
+    → field_fault field number meant ≡ None → IsFieldOf field number meant F → LiesInWell F
+field_lies known field number meant F none is = search (rules, rows_text, text_lies, no_some, fumen_text, page_lies)
 
 -- ---- a problem
 

@@ -1,21 +1,21 @@
 -- The field is had, and then its problem.
-use Rattle.std.proofs.Common.{◌≡◌, ◌∙◌, ℕ, List, None, sym, subst}
+use Rattle.std.proofs.Common.{◌≡◌, ◌∙◌, None, sym, subst}
 use Rattle.lane_board.specs.Field.{Field}
 use Rattle.well.specs.Well.{filled}
 use Rattle.problem.specs.declared.problem.Problem.{Problem}
 use Rattle.pc_settings.specs.Request.{FieldRequest}
 use Rattle.pc_settings.specs.Views.{field_view}
 use Rattle.pc_source.specs.Faults.{field_fault}
-use Rattle.pc_source.specs.FieldTask.{its_field}
+use Rattle.pc_source.specs.FieldText.{DashText}
 use Rattle.pc_source.specs.Had.{HasField, HasProblem, dash_view}
 use Rattle.pc_source.specs.Problem.{IsProblemOf}
 use Rattle.pc_source.specs.ProblemFaults.{problem_fault, request_fault}
 use Rattle.pc_source.proofs.CallerLemmas.{refusal_before}
-use Rattle.pc_source.proofs.FieldFaults.{field_first, had_fault}
+use Rattle.pc_source.proofs.FieldFaults.{field_goes_on, field_stops}
 use Rattle.pc_source.proofs.asked.problem_asked.Goals as goal
 
 -- the field of the problem is the one that was had
-has_problem : (request : FieldRequest) (meant : List ℕ) (F : Field) (problem : Problem) → HasField request.field request.page meant F → problem_fault request F ≡ None → IsProblemOf request F problem → HasProblem request meant problem
+has_problem : (request : FieldRequest) (meant : DashText) (F : Field) (problem : Problem) → HasField request.field request.page meant F → problem_fault request F ≡ None → IsProblemOf request F problem → HasProblem request meant problem
 has_problem request meant F problem has none named = record {
   field = subst (HasField request.field request.page meant) (sym named.field) has;
   none = subst (λ G. problem_fault request G ≡ None) (sym named.field) none;
@@ -27,7 +27,7 @@ returns-in-Err-clause-refused c =
     let request = field_view c.args.settings.now in
     let meant = dash_view c.args.dash in
     refusal_before (field_fault request.field request.page meant) (request_fault request meant) c.in-Err.refused
-    (field_first its_field request.field request.page (λ F bytes. problem_fault request F) meant) c.in-Err.ensures.refused
+    (field_stops request.field request.page meant (problem_fault request)) c.in-Err.ensures.refused
 
 pub returns-in-Ok-problem_of-clause-problem : goal.returns-in-Ok-problem_of-clause-problem
 returns-in-Ok-problem_of-clause-problem c =
@@ -36,4 +36,4 @@ returns-in-Ok-problem_of-clause-problem c =
 pub returns-in-Err-problem_of-clause-refused : goal.returns-in-Err-problem_of-clause-refused
 returns-in-Err-problem_of-clause-refused c =
     let request = field_view c.args.settings.now in
-    had_fault its_field request.field request.page (λ F bytes. problem_fault request F) (dash_view c.args.dash) (filled c.in-Ok.well) c.in-Ok.ensures.field ∙ c.in-Err-problem_of.ensures.fault
+    field_goes_on request.field request.page (dash_view c.args.dash) (problem_fault request) (filled c.in-Ok.well) c.in-Ok.ensures.field ∙ c.in-Err-problem_of.ensures.fault
