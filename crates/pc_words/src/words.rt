@@ -3,7 +3,7 @@ ghost use Rattle.std.specs.Prelude.{◌≡◌, ◌+◌, ◌^◌, ◌<◌, ◌%�
 ghost use Rattle.std.specs.List.{slice_get};
 ghost use Rattle.std.specs.Option.{ForSome};
 ghost use Rattle.pc_words.specs.Views.{AsksInRange, settings_reading, settings_view};
-ghost use Rattle.pc_words.specs.Words.{asked_in, is_given, is_other_field, pair_fault, pairs_fault, request_in, texts, value_of, values_in};
+ghost use Rattle.pc_words.specs.Words.{asked_in, fault_at, is_given, is_other_field, pair_fault, pairs_fault, request_in, texts, value_of, values_in};
 
 use crate::options::{Command, CommandOption, Values, command_named, option_of};
 use crate::settings::{Settings, settings_of};
@@ -40,6 +40,13 @@ fn is_other_field(option: CommandOption, before: &[String]) -> bool
     }
 }
 
+/// The fault of this kind at the word with this index.
+fn fault_at(kind: WordsKind, index: usize) -> WordsFault
+    ensures { result ≡ fault_at kind index }
+{
+    WordsFault { kind, index }
+}
+
 /// The values with that of one more name and the value after it, where there is one, behind these pairs and the
 /// command; or the fault of the two.
 #[tactic(auto, unfolding(crate::specs::Words::pair_fault))]
@@ -62,35 +69,20 @@ fn with_pair(
 {
     let index = before.len() + 1;
     let Some(option) = option_of(command, name) else {
-        return Err(WordsFault {
-            kind: WordsKind::UnknownOption,
-            index,
-        });
+        return Err(fault_at(WordsKind::UnknownOption, index));
     };
     if is_given(option, before) {
-        return Err(WordsFault {
-            kind: WordsKind::RepeatedOption,
-            index,
-        });
+        return Err(fault_at(WordsKind::RepeatedOption, index));
     }
     if is_other_field(option, before) {
-        return Err(WordsFault {
-            kind: WordsKind::BothFields,
-            index,
-        });
+        return Err(fault_at(WordsKind::BothFields, index));
     }
     let Some(text) = value else {
-        return Err(WordsFault {
-            kind: WordsKind::MissingValue,
-            index,
-        });
+        return Err(fault_at(WordsKind::MissingValue, index));
     };
     match values.with_value(option, text) {
         Some(values) => Ok(values),
-        None => Err(WordsFault {
-            kind: WordsKind::BadValue,
-            index: index + 1,
-        }),
+        None => Err(fault_at(WordsKind::BadValue, index + 1)),
     }
 }
 
@@ -134,16 +126,10 @@ pub fn read_words(words: &[String]) -> Result<Settings<'_>, Fault>
     ensures range { IfOk result (λ settings. AsksInRange (settings_view settings)) }
 {
     let [word, pairs @ ..] = words else {
-        return Err(Fault::Words(WordsFault {
-            kind: WordsKind::NoCommand,
-            index: 0,
-        }));
+        return Err(Fault::Words(fault_at(WordsKind::NoCommand, 0)));
     };
     let Some(command) = command_named(word.as_str()) else {
-        return Err(Fault::Words(WordsFault {
-            kind: WordsKind::UnknownCommand,
-            index: 0,
-        }));
+        return Err(Fault::Words(fault_at(WordsKind::UnknownCommand, 0)));
     };
     match read_pairs(command, pairs) {
         Ok(values) => settings_of(command, pairs, values),
