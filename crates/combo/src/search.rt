@@ -72,12 +72,7 @@ fn first_run<L: Ledger>(
     }
     let found = first_of_takes(play, queue, well, hand, count, store, steps);
     if found.is_none() {
-        let searched = SearchedPosition {
-            well: *well,
-            hand,
-            count,
-        };
-        store.put(hash, Some(searched));
+        store.put(hash, Some(SearchedPosition::new(well, hand, count)));
     }
     found
 }

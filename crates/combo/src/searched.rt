@@ -14,6 +14,21 @@ pub struct SearchedPosition {
 }
 
 impl SearchedPosition {
+    /// This field and these pieces at hand, which permit no run of `count` placements.
+    pub fn new(well: &Well, hand: Hand, count: u8) -> SearchedPosition
+        ensures { result ≡ record {
+          well = well.now;
+          hand = hand;
+          count = count;
+        } }
+    {
+        SearchedPosition {
+            well: *well,
+            hand,
+            count,
+        }
+    }
+
     /// Whether this says that this field and these pieces at hand permit no run of `count` placements.
     pub fn says(&self, well: &Well, hand: Hand, count: u8) -> bool
         ensures well { IsTrue result → filled self.now.well ≡ filled well.now }
