@@ -42,19 +42,17 @@ pub(crate) fn most_written(limit: u32, room: usize, needed: u8) -> u32
 pub(crate) fn write_list<L: Ledger>(
     problem: &Problem,
     search: &mut Search,
-    needed: u8,
     most: u32,
     placements: &mut [u8],
     steps: &mut Steps<L>,
 ) -> Written
     requires fit { IsFit problem.now }
-    requires needed { needed ≡ needed_of problem.now }
     requires search { IsSearchOf problem.now (after_given search.old) search.old 0 }
-    requires room { most * (4 * needed) ≤ length placements.old }
+    requires room { most * (4 * needed_of problem.now) ≤ length placements.old }
     ensures count { result.count ≡ min most (length (solutions search.old)) }
     ensures written { take result.size placements.new
         ≡ flat_map sequence_numbers (take result.count (solutions search.old)) }
-    ensures size { result.size ≡ result.count * (4 * needed) }
+    ensures size { result.size ≡ result.count * (4 * needed_of problem.now) }
     ensures rest { drop result.size placements.new ≡ drop result.size placements.old }
     ensures ended { result.ended ≡ nat_lt (length (solutions search.old)) most }
     ensures counted { steps.old ≤ steps.new }
@@ -65,15 +63,12 @@ pub(crate) fn write_list<L: Ledger>(
 {
     let mut size = 0;
     for count in 0..most {
-        let sequence = match search.next(steps) {
-            Some(sequence) => sequence,
-            None => {
-                return Written {
-                    count,
-                    size,
-                    ended: true,
-                };
-            }
+        let Some(sequence) = search.next(steps) else {
+            return Written {
+                count,
+                size,
+                ended: true,
+            };
         };
         size = write_sequence(sequence.as_slice(), placements, size);
     }

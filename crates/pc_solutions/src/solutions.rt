@@ -122,5 +122,5 @@ pub fn write_solutions<L: Ledger>(
         Err(_) => return Err(Refusal::NoMemory),
     };
     let most = most_written(settings.limit, placements.len(), needed);
-    Ok(write_list(&problem, &mut search, needed, most, placements, steps))
+    Ok(write_list(&problem, &mut search, most, placements, steps))
 }

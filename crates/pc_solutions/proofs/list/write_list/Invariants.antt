@@ -2,13 +2,14 @@
 use Rattle.std.proofs.Common.{◌≡◌, ◌*◌, ◌-◌, ◌≤◌, length, take, drop}
 use Rattle.std.specs.List.{flat_map}
 use Rattle.placement_numbers.specs.Numbers.{sequence_numbers}
+use Rattle.problem.specs.Problem.{needed_of}
 use Rattle.enumerate.specs.ViewOf.{after_given, solutions}
 use Rattle.pc_path.specs.Work.{IsSearchOf}
 use Rattle.pc_solutions.proofs.list.write_list.Given as goal
 
 abbrev pub invariant-loop-count : goal.invariant-loop-count
 invariant-loop-count g l =
-    (l.size ≡ l.count * (4 * l.needed))
+    (l.size ≡ l.count * (4 * needed_of l.problem))
     × (take l.size l.placements ≡ flat_map sequence_numbers (take l.count (solutions l.initial.search)))
     × (drop l.size l.placements ≡ drop l.size l.initial.placements)
     × (l.initial.steps ≤ l.steps)

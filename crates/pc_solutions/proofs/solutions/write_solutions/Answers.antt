@@ -2,6 +2,7 @@
 use Rattle.std.proofs.Common.{◌≡◌, ◌∙◌, ◌*◌, ◌-◌, ◌<◌, ◌≤◌, nat_lt, min, length, sym, ap, subst, arith}
 use Rattle.std.proofs.lemmas.List.{length-take-le}
 use Rattle.placement_numbers.specs.Numbers.{AreNumbersOf}
+use Rattle.problem.specs.Problem.{needed_of}
 use Rattle.problem.specs.SolutionList.{IsList}
 use Rattle.enumerate.specs.Items.{items_of}
 use Rattle.enumerate.specs.ViewOf.{solutions}
@@ -10,7 +11,7 @@ use Rattle.pc_path.specs.Output.{IsGiven}
 use Rattle.pc_path.specs.Work.{IsSearchOf}
 use Rattle.pc_solutions.specs.Asked.{IsAfter}
 use Rattle.pc_solutions.specs.Written.{most_written}
-use Rattle.pc_solutions.proofs.Room.{all_fit, most_fits}
+use Rattle.pc_solutions.proofs.Room.{all_fit, most_fit}
 use Rattle.pc_solutions.proofs.solutions.write_solutions.Goals as goal
 
 pub returns-in_err-after-clause-no_sequence : goal.returns-in_err-after-clause-no_sequence
@@ -36,15 +37,13 @@ returns-then-placements-from-clause-no_room g c = λ is.
 
 pub write_list-requires-clause-room : goal.write_list-requires-clause-room
 write_list-requires-clause-room g c =
-    subst (λ most. most * (4 * c.needed-needed.result) ≤ length c.args.placements.now) (sym c.most_written-most.ensures)
-    (most_fits c.args.settings.now.limit (length c.args.placements.now) c.needed-needed.result)
+    most_fit c.args.settings.now.limit (length c.args.placements.now) c.needed-needed.result _ c.most_written-most.result c.most_written-most.ensures c.needed-needed.ensures
 
 pub returns-clause-within : goal.returns-clause-within
 returns-clause-within g c =
     let list = c.write_list.ensures in
-    let fits = all_fit c.write_list.result.count c.most_written-most.result (4 * c.needed-needed.result) (length c.args.placements.now) _ list.count
-    (subst (λ most. most * (4 * c.needed-needed.result) ≤ length c.args.placements.now) (sym c.most_written-most.ensures)
-    (most_fits c.args.settings.now.limit (length c.args.placements.now) c.needed-needed.result)) in
+    let fits = all_fit c.write_list.result.count c.most_written-most.result (4 * needed_of c.in_ok-listing.listing.problem) (length c.args.placements.now) _ list.count
+    (most_fit c.args.settings.now.limit (length c.args.placements.now) c.needed-needed.result _ c.most_written-most.result c.most_written-most.ensures c.needed-needed.ensures) in
     omega (arith, fits, list.size, c.write_list.auto.placements)
 
 pub returns-clause-written : goal.returns-clause-written
@@ -70,7 +69,7 @@ returns-clause-written g c =
       list = subst (λ v. IsList v (solutions search)) c.in-Ok.ensures.view c.in-Ok.ensures.list;
       counted = subst (λ n. c.write_list.result.count ≡ n) (ap (λ m. min m (length (solutions search))) most) list.count;
       are = list.written;
-      size = length-take-le c.write_list.result.size c.write_list.new.placements (returns-clause-within g c) ∙ list.size ∙ ap (λ n. c.write_list.result.count * (4 * n)) needed;
+      size = length-take-le c.write_list.result.size c.write_list.new.placements (returns-clause-within g c) ∙ list.size;
       end = list.ended ∙ ap (λ m. nat_lt (length (solutions search)) m) most;
       work = record {
         search = c.write_list.new.search;
