@@ -154,6 +154,14 @@ pub leaves_sink : (asked : Result Request Fault) (request : Request) → Ok requ
     → (Kept → sink.now ≡ sink.before) → IsAnswered (task_for request) bytes sink Kept floods status → LeavesSink (task_in asked) sink Kept status
 leaves_sink asked request same bytes sink Kept floods status kept a = search rules
 
+-- a source that could not be read leaves the sink as it was
+pub leaves_idle : (task : Task) (sink : SinkChange) (Kept : Type 0) (status : Status) → IsUnread status → Kept → sink.now ≡ sink.before → LeavesSink task sink Kept status
+leaves_idle task sink Kept Done unread kept same = absurd unread
+leaves_idle task sink Kept (Input f) unread kept same = kept
+leaves_idle task sink Kept SourceFault unread kept same = kept
+leaves_idle task sink Kept SinkFault unread kept same = absurd unread
+leaves_idle task sink Kept NoMemory unread kept same = (λ first. kept, λ alone. same)
+
 -- the whole is a front of itself, and nothing is a front of anything
 whole_is_front : {old new : Option (List ℕ)} {bytes : List ℕ} → Grows old new bytes → GrowsByFront old new bytes
 whole_is_front {bytes = bytes} grown = record { rest = []; up_to = record { front = bytes; divided = sym (append-nil bytes); grown = grown } }

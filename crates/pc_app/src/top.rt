@@ -1,5 +1,5 @@
 // The top call: from the words to what is written.
-ghost use Rattle.std.specs.Prelude.{◌≡◌, ◌≢◌, ◌-◌, ◌≤◌, true, Some, Err};
+ghost use Rattle.std.specs.Prelude.{◌≡◌, ◌≢◌, ◌≤◌, true, Err};
 ghost use Rattle.kick_file.specs.declared.fault.KickFault.{KickFault};
 ghost use Rattle.pc_outside.specs.Counts.{Rose};
 ghost use Rattle.pc_outside.specs.Writes.{Grows, GrowsByFront};
@@ -9,10 +9,9 @@ ghost use Rattle.pc_faults.specs.declared.words_fault.WordsFault.{WordsFault};
 ghost use Rattle.pc_faults.specs.FaultLine.{fault_line};
 ghost use Rattle.pc_source.specs.Sink.{sink_change};
 ghost use Rattle.pc_source.specs.Source.{LeavesSource};
-ghost use Rattle.pc_source.specs.Task.{ForBytes, ForSomeBytes, first_fault, reads_source};
-ghost use Rattle.pc_source.specs.Work.{Works};
+ghost use Rattle.pc_source.specs.Task.{reads_source};
 ghost use Rattle.pc_words.specs.Words.{asked_in, request_in, texts};
-ghost use Rattle.pc_app.specs.Ran.{LeavesSink, Ran};
+ghost use Rattle.pc_app.specs.Ran.{HasRun};
 ghost use Rattle.pc_app.specs.Run.{RunEnds, source_change};
 ghost use Rattle.pc_app.specs.Tasks.{task_of};
 
@@ -33,15 +32,9 @@ fn answer<S: Source, O: Sink, L: Ledger>(
     out: &mut O,
     steps: &mut Steps<L>,
 ) -> Status
-    ensures ran { let task = task_of (texts words.now) in
-        let sink = sink_change O.counts_failures_alone (O.written out.old) (O.written out.new)
-        (O.faults out.old) (O.faults out.new) in
-        ForBytes task (S.left source.old)
-        (λ bytes. Ran task bytes sink (out.new ≡ out.old) (steps.new - steps.old) result) }
-    ensures sink { let task = task_of (texts words.now) in
-        let sink = sink_change O.counts_failures_alone (O.written out.old) (O.written out.new)
-        (O.faults out.old) (O.faults out.new) in
-        LeavesSink task sink (out.new ≡ out.old) result }
+    ensures ran { HasRun (texts words.now) (S.left source.old)
+        (sink_change O.counts_failures_alone (O.written out.old) (O.written out.new)
+        (O.faults out.old) (O.faults out.new)) (out.new ≡ out.old) steps.old steps.new result }
     ensures words_fault { (fault : WordsFault) → result ≡ Status.Input (Fault.Words fault)
         → request_in (texts words.now) ≡ Err fault }
     ensures kicks_fault { (fault : KickFault) → result ≡ Status.Input (Fault.Kicks fault)
@@ -51,17 +44,9 @@ fn answer<S: Source, O: Sink, L: Ledger>(
     ensures source_rose { result ≡ Status.SourceFault → Rose (S.faults source.old) (S.faults source.new) }
     ensures source_kept { S.counts_failures_alone ≡ true → result ≢ Status.SourceFault
         → S.faults source.new ≡ S.faults source.old }
-    ensures work { let task = task_of (texts words.now) in
-        let sink = sink_change O.counts_failures_alone (O.written out.old) (O.written out.new)
-        (O.faults out.old) (O.faults out.new) in
-        ForSomeBytes task (S.left source.old)
-        (λ bytes. Works task (first_fault task bytes) bytes sink (steps.new - steps.old) result) }
     ensures rose { steps.old ≤ steps.new }
     ensures input_idle { (fault : Fault) → result ≡ Status.Input fault → steps.new ≡ steps.old }
     ensures unread_idle { result ≡ Status.SourceFault → steps.new ≡ steps.old }
-    ensures fault_idle { let task = task_of (texts words.now) in
-        ForBytes task (S.left source.old) (λ bytes. (fault : Fault) → first_fault task bytes ≡ Some fault
-        → steps.new ≡ steps.old) }
 {
     let settings = match read_words(words) {
         Ok(settings) => settings,
