@@ -18,7 +18,8 @@ use Rattle.pc_source.specs.Answers.{FailedAfterFront, Wrote}
 use Rattle.pc_source.specs.Sink.{SinkChange, sink_change}
 use Rattle.pc_source.specs.Task.{ForBytes, ForSomeBytes, HasBytes, Sees, Task, first_fault, reads_source}
 use Rattle.pc_source.specs.Work.{Works}
-use Rattle.pc_c.specs.Call.{ForFloods, TellsFault, WritesCut, WritesFront, WritesOutput, filled, seen}
+use Rattle.pc_app.specs.Tasks.{task_of}
+use Rattle.pc_c.specs.Call.{EndsRun, ForFloods, TellsFault, WritesCut, WritesFront, WritesOutput, filled, seen}
 use Rattle.pc_c.specs.Ended.{EndedBy, LeavesErr, LeavesOut}
 
 -- ---- what a sink over a slice holds
@@ -292,3 +293,23 @@ none_made holds = record { floods = 0; counted = refl; holds = holds }
 -- before the words are had, nothing is written, and no flood is made
 pub nothing_written : (task : Task) (bytes : List ℕ) → ForFloods 0 (WritesFront task bytes [])
 nothing_written task bytes = search rules
+
+pub ends_wanting : (words : List (List ℕ)) (input : List ℕ) (room err_room status : ℕ) → status ≡ 5
+    → EndsRun words input [] room [] err_room 0 status
+ends_wanting words input room err_room status five = record {
+  done = λ is. absurd (omega (arith, five, is));
+  faulty = λ is. absurd (omega (arith, five, is));
+  cut = λ is. absurd (omega (arith, five, is));
+  no_memory = λ _. nothing_written (task_of words) (seen (task_of words) input);
+}
+
+-- what the status says of the words that were run
+pub ends_run : (words : List (List ℕ)) (input written : List ℕ) (room count : ℕ) (told : List ℕ) (err_room code : ℕ)
+    → EndedBy (task_of words) (seen (task_of words) input) written room count told err_room code
+    → EndsRun words input written room told err_room count code
+ends_run words input written room count told err_room code ended = record {
+  done = at_done _ _ _ _ _ _ _ _ ended;
+  faulty = at_fault _ _ _ _ _ _ _ _ ended;
+  cut = at_cut _ _ _ _ _ _ _ _ ended;
+  no_memory = at_no_memory _ _ _ _ _ _ _ _ ended;
+}

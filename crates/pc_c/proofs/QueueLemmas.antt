@@ -18,7 +18,8 @@ use Rattle.pc_c.specs.declared.answer.Answer.TheVariants.{Written, OtherCommand,
 use Rattle.pc_c.specs.Answered.{answer_of}
 use Rattle.pc_c.specs.Asked.{ForAsked}
 use Rattle.pc_c.specs.OtherCommand.{is_percent}
-use Rattle.pc_c.specs.QueuesEnded.{EndsQueues, IsPercentAnswer, IsPercentRefusal}
+use Rattle.pc_c.specs.GoodQueues.{EndsQueues}
+use Rattle.pc_c.specs.QueuesEnded.{IsPercentAnswer, IsPercentRefusal}
 use Rattle.pc_c.proofs.InputLemmas.{faulty_asked, for_asked}
 
 module _ (words : List (List ℕ)) (input : List ℕ) where
@@ -69,3 +70,15 @@ pub same_words : {words other : List (List ℕ)} {input written : List ℕ} {roo
     → EndsQueues other input written room count good told err_room floods status
 same_words {input = input} {written = written} {room = room} {count = count} {good = good} {told = told} {err_room = err_room} {floods = floods} {status = status} same =
     subst (λ (words : List (List ℕ)). EndsQueues words input written room count good told err_room floods status) same
+
+-- memory is wanting for the words
+pub queues_wanting : (words : List (List ℕ)) (input : List ℕ) (room err_room status : ℕ) → status ≡ 5
+    → EndsQueues words input [] room 0 0 [] err_room 0 status
+queues_wanting words input room err_room status five = record {
+  done = λ is. absurd (omega (arith, five, is));
+  faulty = λ is. absurd (omega (arith, five, is));
+  no_room = λ is. absurd (omega (arith, five, is));
+  no_memory = λ _. inl refl;
+  other = λ is. absurd (omega (arith, five, is));
+  other_ends = λ _. inl five;
+}

@@ -1,5 +1,5 @@
 -- What a call for solutions answers, by its words.
-use Rattle.std.proofs.Common.{◌≡◌, ◌∙◌, ℕ, ◌-◌, ◌^◌, ◌≤◌, ◌==◌, min, Bool, true, false, if◌then◌else◌, List, [], length, take, drop, Some, None, Result, Ok, Err, IfOk, refl, sym, ap, subst, true≢false, rules}
+use Rattle.std.proofs.Common.{◌≡◌, ◌∙◌, ℕ, ◌-◌, ◌^◌, ◌≤◌, ◌==◌, min, Bool, true, if◌then◌else◌, List, [], length, take, drop, Some, None, Result, Ok, Err, IfOk, refl, sym, ap, subst, true≢false, inl, arith, rules}
 use Rattle.std.specs.Prelude.{OnErr}
 use Rattle.pc_faults.specs.declared.fault.Fault.{Fault}
 use Rattle.pc_settings.specs.Request.{PathRequest}
@@ -14,9 +14,9 @@ use Rattle.pc_solutions.specs.declared.solutions.Refusal.{Refusal}
 use Rattle.pc_solutions.specs.declared.solutions.Refusal.TheVariants.{Input, NoSequence, NoRoom, NoMemory}
 use Rattle.pc_solutions.specs.Asked.{HasNoRoom, HasNoSequence}
 use Rattle.pc_solutions.specs.Written.{WritesSolutions}
-use Rattle.pc_c.specs.Answered.{HasAskedFault, answer_of}
+use Rattle.pc_c.specs.Answered.{answer_of}
 use Rattle.pc_c.specs.Asked.{ForAsked}
-use Rattle.pc_c.specs.Solutions.{LacksRoom, LacksSequence, TellsSolutions}
+use Rattle.pc_c.specs.Solutions.{EndsSolutions, TellsSolutions}
 use Rattle.pc_c.specs.OtherCommand.{asks_other, is_other, is_path}
 use Rattle.pc_c.specs.SolutionsEnded.{IsPathAnswer}
 use Rattle.pc_c.specs.declared.answer.Answer.{Answer}
@@ -59,38 +59,43 @@ module _ (words : List (List ℕ)) (input : List ℕ) (request : PathRequest)
 pub path_asked : (words : List (List ℕ)) (input : List ℕ) {Holds : PathRequest → List ℕ → Type 0} → ForAsked path words input Holds → asks_other is_path words ≡ true → ⊥
 path_asked words input has other = true≢false (sym other ∙ ap (is_other is_path) has.asked)
 
-pub not_both : (words : List (List ℕ)) → asks_other is_path words ≡ false → asks_other is_path words ≡ true → ⊥
-not_both words path_alone other = true≢false (sym other ∙ path_alone)
+-- ---- what was answered
 
--- ---- what was answered, of words that are these
-
-module _ (all words : List (List ℕ)) (same : all ≡ words) (input numbers before after : List ℕ) (floods : ℕ) (answer : Answer Written Refusal)
-    (is : IsPathAnswer all input numbers before after floods answer) where
-  here : IsPathAnswer words input numbers before after floods answer
-  here = subst (λ words. IsPathAnswer words input numbers before after floods answer) same is
-
+module _ (words : List (List ℕ)) (input numbers before after : List ℕ) (floods : ℕ) (answer : Answer Written Refusal)
+    (here : IsPathAnswer words input numbers before after floods answer) where
   pub was_written : (w : Written) → answer ≡ answers.Written w
       → ForAsked path words input (λ request bytes. WritesSolutions request bytes numbers (length before) (take w.size after) w.count w.ended floods)
   was_written w found = (subst (IsPathAnswer words input numbers before after floods) found here).0
-
-  pub was_other : answer ≡ answers.OtherCommand → asks_other is_path words ≡ true
-  was_other found = (subst (IsPathAnswer words input numbers before after floods) found here).0
-
-  module _ (refusal : Refusal) (found : answer ≡ answers.Unwritten refusal) where
-    refused : (why : Refusal) → refusal ≡ why → IsPathAnswer words input numbers before after floods (answers.Unwritten why)
-    refused why cause = subst (λ r. IsPathAnswer words input numbers before after floods (answers.Unwritten r)) cause (subst (IsPathAnswer words input numbers before after floods) found here)
-
-    pub was_fault : (fault : Fault) → refusal ≡ Input fault → HasAskedFault is_path words input fault
-    was_fault fault cause = (refused (Input fault) cause).0.0
-
-    pub was_no_sequence : refusal ≡ NoSequence → LacksSequence words input numbers
-    was_no_sequence cause = (refused NoSequence cause).0.0
-
-    pub was_no_room : refusal ≡ NoRoom → LacksRoom words input numbers (length before)
-    was_no_room cause = (refused NoRoom cause).0.0
 
 -- the numbers that are told of it
 pub tells : (words : List (List ℕ)) (input numbers written : List ℕ) (room count ended floods made : ℕ) (all : Bool) → floods ≡ min made (2 ^ 64 - 1) → (ended == 1) ≡ all
     → ForAsked path words input (λ request bytes. WritesSolutions request bytes numbers room written count all made)
     → TellsSolutions words input numbers room written count ended floods
 tells words input numbers written room count ended floods made all counted flag has = search rules
+
+-- ---- what the status says of the words
+
+module _ (words : List (List ℕ)) (input numbers : List ℕ) (room : ℕ) (written : List ℕ) (count ended : ℕ) (told : List ℕ)
+    (err_room floods status : ℕ) where
+  abbrev Ends : Type 0
+  Ends = EndsSolutions words input numbers room written count ended told err_room floods status
+
+  pub ends_done : status ≡ 0 → TellsSolutions words input numbers room written count ended floods → Ends
+  ends_done zero tells = record {
+    done = λ _. tells;
+    faulty = λ is. absurd (omega (arith, zero, is));
+    no_room = λ is. absurd (omega (arith, zero, is));
+    no_sequence = λ is. absurd (omega (arith, zero, is));
+    other = λ is. absurd (omega (arith, zero, is));
+    other_ends = λ other. absurd (path_asked words input tells other);
+  }
+
+  pub ends_wanting : status ≡ 5 → Ends
+  ends_wanting five = record {
+    done = λ is. absurd (omega (arith, five, is));
+    faulty = λ is. absurd (omega (arith, five, is));
+    no_room = λ is. absurd (omega (arith, five, is));
+    no_sequence = λ is. absurd (omega (arith, five, is));
+    other = λ is. absurd (omega (arith, five, is));
+    other_ends = λ _. inl five;
+  }

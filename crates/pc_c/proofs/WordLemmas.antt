@@ -1,8 +1,11 @@
 -- A text spells at most one list of words, and a part of it was read.
-use Rattle.std.proofs.Common.{◌≡◌, ℕ, ◌==◌, false, List, [], ◌∷◌, ◌++◌, refl, sym, ap, subst, ◌∙◌, append_assoc, append-nil, true≢false, rules}
+use Rattle.std.proofs.Common.{◌≡◌, ◌≢◌, ℕ, ◌==◌, false, List, [], ◌∷◌, ◌++◌, refl, sym, ap, subst, ◌∙◌, append_assoc, append-nil, true≢false, inl, inr, arith, rules}
 use Rattle.std.specs.Prelude.{IsUtf8}
 use Rattle.std.proofs.lemmas.List.Elements.{All-head, All-tail}
+use Rattle.pc_c.specs.Call.{IsStatus, IsStatusOf}
 use Rattle.pc_c.specs.Words.{SpellsWords, SpellsNoWords}
+use Rattle.pc_c.specs.declared.words.NoWords.{NoWords}
+use Rattle.pc_c.specs.declared.words.NoWords.TheVariants.{Unspelled, NoMemory}
 use Rattle.pc_c.proofs.NulLemmas.{IsPlain}
 
 abbrev head_of : ℕ → List ℕ → ℕ
@@ -85,3 +88,41 @@ not_utf8 text words rest word more so_far cut plain bad all is = let left = so_f
     none (w ∷ later) is =
         let same = same_cut w word is.1 more is.0.plain plain (sym is.2 ∙ cut) in
         bad (subst IsUtf8 same.0 is.0.utf8)
+
+-- ---- the status of a call
+
+pub status_five : IsStatus 5
+status_five = inr (inr (inr (inl refl)))
+
+pub status_six : IsStatus 6
+status_six = inr (inr (inr (inr refl)))
+
+-- the text has words
+pub worded_status : (Is : ℕ → Type 0) (text : List ℕ) (words : List (List ℕ)) (status : ℕ) → SpellsWords text words
+    → Is status → status ≢ 6 → IsStatusOf Is text status
+worded_status Is text words status spelled one worded = record {
+  one = one;
+  no_words = λ six. absurd (worded six);
+  unspelled = λ none. absurd (none words spelled);
+}
+
+-- it has none, or memory is wanting
+pub none_status : (Is : ℕ → Type 0) → Is 5 → Is 6 → (text : List ℕ) (none : NoWords) (status : ℕ)
+    → (none ≡ Unspelled → status ≡ 6) → (none ≡ NoMemory → status ≡ 5) → (none ≡ Unspelled → SpellsNoWords text)
+    → IsStatusOf Is text status
+none_status Is five six text Unspelled status unspelled wanting unworded = record {
+  one = subst Is (sym (unspelled refl)) six;
+  no_words = λ _. unworded refl;
+  unspelled = λ _. inr (unspelled refl);
+}
+none_status Is five six text NoMemory status unspelled wanting unworded = record {
+  one = subst Is (sym (wanting refl)) five;
+  no_words = λ is. absurd (omega (arith, wanting refl, is));
+  unspelled = λ _. inl (wanting refl);
+}
+
+-- so where it has words, memory is wanting
+pub none_wanting : (text : List ℕ) (none : NoWords) (status : ℕ) → (none ≡ NoMemory → status ≡ 5)
+    → (none ≡ Unspelled → SpellsNoWords text) → (words : List (List ℕ)) → SpellsWords text words → status ≡ 5
+none_wanting text Unspelled status wanting unworded words spelled = absurd (unworded refl words spelled)
+none_wanting text NoMemory status wanting unworded words spelled = wanting refl

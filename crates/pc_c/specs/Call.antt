@@ -1,15 +1,29 @@
 -- What a call wrote, by its status.
-use Rattle.std.specs.Prelude.{◌≡◌, ℕ, ◌+◌, ◌-◌, ◌^◌, ◌<◌, min, List, [], ◌++◌, length, take, true, if◌then◌else◌, Some, None, ◌⊎◌}
+use Rattle.std.specs.Prelude.{◌≡◌, ℕ, ◌+◌, ◌-◌, ◌^◌, ◌<◌, ◌≤◌, min, List, [], ◌++◌, length, take, drop, true, if◌then◌else◌, Some, None, ◌⊎◌}
 use Rattle.pc_faults.specs.declared.fault.Fault.{Fault}
 use Rattle.pc_faults.specs.declared.status.Status.TheVariants.{Done, NoMemory, SinkFault}
 use Rattle.pc_faults.specs.FaultLine.{fault_line}
 use Rattle.pc_source.specs.Sink.{SinkChange, sink_change}
 use Rattle.pc_source.specs.Task.{Task, first_fault, reads_source}
 use Rattle.pc_source.specs.Work.{Works}
+use Rattle.pc_app.specs.Tasks.{task_of}
+use Rattle.pc_c.specs.Words.{SpellsNoWords}
 
 -- done, a fault of the input, too little room, no memory, no words
 abbrev pub IsStatus : ℕ → Type 0
 IsStatus status = (status ≡ 0) ⊎ (status ≡ 2) ⊎ (status ≡ 4) ⊎ (status ≡ 5) ⊎ (status ≡ 6)
+
+-- A status that is one of these. 6 says that the text is no words at all, and this is answered, unless memory is
+-- wanting.
+pub record IsStatusOf (Is : ℕ → Type 0) (text : List ℕ) (status : ℕ) : Type 0 where
+  pub one : Is status
+  pub no_words : status ≡ 6 → SpellsNoWords text
+  pub unspelled : SpellsNoWords text → (status ≡ 5) ⊎ (status ≡ 6)
+
+-- of the bytes of a buffer none changed but the first ones, so many
+pub record ChangesFront (old new : List ℕ) (count : ℕ) : Type 0 where
+  pub within : count ≤ length new
+  pub rest : drop count new ≡ drop count old
 
 -- the bytes that the command sees of the input
 abbrev pub seen : Task → List ℕ → List ℕ
@@ -56,3 +70,12 @@ pub record WritesFront (task : Task) (bytes written : List ℕ) (floods : ℕ) :
   pub first : task.memory_first ≡ true → written ≡ []
   pub faulty : (fault : Fault) → first_fault task bytes ≡ Some fault → written ≡ []
   pub work : Works task (first_fault task bytes) bytes (filled written 0) floods NoMemory
+
+-- What the status of a call says of these words and this input. There was so much room for what was written and for the
+-- line that was told, and the call tells so many floods.
+pub record EndsRun (words : List (List ℕ)) (input written : List ℕ) (room : ℕ) (told : List ℕ)
+    (err_room floods status : ℕ) : Type 0 where
+  pub done : let task = task_of words in status ≡ 0 → ForFloods floods (WritesOutput task (seen task input) written)
+  pub faulty : let task = task_of words in status ≡ 2 → TellsFault task (seen task input) told err_room
+  pub cut : let task = task_of words in status ≡ 4 → ForFloods floods (WritesCut task (seen task input) written room)
+  pub no_memory : let task = task_of words in status ≡ 5 → ForFloods floods (WritesFront task (seen task input) written)

@@ -1,14 +1,13 @@
--- How a call for good queues ended, and what it left in the slices.
-use Rattle.std.specs.Prelude.{◌≡◌, ◌≢◌, ℕ, List, true, take, drop, length, ◌⊎◌}
+-- How a call for good queues is answered, before its status and its numbers are told.
+use Rattle.std.specs.Prelude.{◌≡◌, ℕ, List, take, drop, length, ◌⊎◌}
 use Rattle.pc_good_queues.specs.Bits.{bytes_for}
 use Rattle.pc_good_queues.specs.declared.answer.NoBits.{NoBits}
 use Rattle.pc_good_queues.specs.declared.answer.NoBits.TheVariants.{Fault, NoRoom, NoMemory}
 use Rattle.pc_good_queues.specs.declared.answer.QueueCounts.{QueueCounts}
 use Rattle.pc_c.specs.declared.answer.Answer.{Answer}
 use Rattle.pc_c.specs.Answered.{HasAskedFault, IsAnswer}
-use Rattle.pc_c.specs.Asked.{TellsAskedFault}
-use Rattle.pc_c.specs.GoodQueues.{HasBitRoom, IsQueuesStatus, LacksBitRoom, WritesBits}
-use Rattle.pc_c.specs.OtherCommand.{asks_other, is_percent}
+use Rattle.pc_c.specs.GoodQueues.{HasBitRoom, LacksBitRoom, WritesBits}
+use Rattle.pc_c.specs.OtherCommand.{is_percent}
 
 -- why there are no bits, with so much room and after so many floods
 abbrev pub IsPercentRefusal : (words : List (List ℕ)) (input : List ℕ) (room floods : ℕ) → NoBits → Type 0
@@ -23,15 +22,3 @@ IsPercentAnswer words input old new floods = IsAnswer is_percent words
     (λ counts. WritesBits words input (take (bytes_for counts.queues) new) counts.queues counts.good
     × (drop (bytes_for counts.queues) new ≡ drop (bytes_for counts.queues) old))
     (λ why. IsPercentRefusal words input (length old) floods why) (new ≡ old) floods
-
--- what a call that had words left in its slices, and the numbers that it tells
-pub record EndsQueues (words : List (List ℕ)) (input written : List ℕ) (room count good : ℕ) (told : List ℕ)
-    (err_room floods status : ℕ) : Type 0 where
-  pub is : IsQueuesStatus status
-  pub worded : status ≢ 6
-  pub done : status ≡ 0 → WritesBits words input written count good
-  pub faulty : status ≡ 2 → TellsAskedFault is_percent words input told err_room
-  pub no_room : status ≡ 4 → LacksBitRoom words input room count
-  pub no_memory : status ≡ 5 → (floods ≡ 0) ⊎ HasBitRoom words input room
-  pub other : status ≡ 7 → asks_other is_percent words ≡ true
-  pub other_ends : asks_other is_percent words ≡ true → (status ≡ 5) ⊎ (status ≡ 7)

@@ -1,19 +1,19 @@
 // The answers of `percent` as bits, called from C.
-ghost use Rattle.std.specs.Prelude.{◌≡◌, ◌≢◌, ◌<◌, ◌≤◌, ◌⊎◌, ℕ, List, length, take, drop, true, MatchOption, Ok};
+ghost use Rattle.std.specs.Prelude.{◌≡◌, ◌≢◌, ◌<◌, ℕ, List, length, take, true, MatchOption, Ok};
 ghost use Rattle.pc_words.specs.Views.{settings_view};
 ghost use Rattle.pc_words.specs.Words.{texts};
 ghost use Rattle.pc_words.specs.declared.settings.Settings.{Settings};
-ghost use Rattle.pc_c.specs.Asked.{TellsAskedFault};
-ghost use Rattle.pc_c.specs.GoodQueues.{HasBitRoom, IsQueuesStatus, LacksBitRoom, WritesBits};
-ghost use Rattle.pc_c.specs.OtherCommand.{asks_other, is_other, is_percent};
-ghost use Rattle.pc_c.specs.QueuesEnded.{EndsQueues, IsPercentAnswer};
-ghost use Rattle.pc_c.specs.Words.{SpellsNoWords, SpellsWords};
+ghost use Rattle.pc_c.specs.Call.{ChangesFront, IsStatusOf};
+ghost use Rattle.pc_c.specs.GoodQueues.{EndsQueues, IsQueuesStatus, IsSilentQueues};
+ghost use Rattle.pc_c.specs.OtherCommand.{is_other, is_percent};
+ghost use Rattle.pc_c.specs.QueuesEnded.{IsPercentAnswer};
+ghost use Rattle.pc_c.specs.Words.{SpellsWords};
 
 use crate::answer::{Answer, Answered, answer_of, idle};
 use crate::input::seen_bytes;
 use crate::slots::write_line;
-use crate::status::{DONE, FAULT, NO_MEMORY, NO_ROOM, NO_WORDS, OTHER_COMMAND};
-use crate::words::{NoWords, words_in};
+use crate::status::{DONE, FAULT, NO_MEMORY, NO_ROOM, OTHER_COMMAND};
+use crate::words::words_in;
 use pc_good_queues::{NoBits, QueueCounts, bytes_for, write_good_queues};
 use pc_settings::PercentSettings;
 use pc_source::is_of_source;
@@ -106,16 +106,13 @@ fn run_queues(
     bits: &mut [u8],
     err: &mut [u8],
 ) -> QueuesEnded
-    ensures written { result.written ≤ length bits.new }
-    ensures told { result.told ≤ length err.new }
-    ensures rest { drop result.written bits.new ≡ drop result.written bits.old }
-    ensures err_rest { drop result.told err.new ≡ drop result.told err.old }
+    ensures status { IsQueuesStatus result.status }
+    ensures worded { result.status ≢ 6 }
+    ensures bits { ChangesFront bits.old bits.new result.written }
+    ensures err { ChangesFront err.old err.new result.told }
     ensures ended { EndsQueues (texts words.now) input.now (take result.written bits.new) (length bits.old)
         result.queues result.good (take result.told err.new) (length err.old) result.floods result.status }
-    ensures quiet { result.status ≢ 0 → (result.written ≡ 0) × (result.good ≡ 0) }
-    ensures uncounted { result.status ≢ 0 → result.status ≢ 4 → result.queues ≡ 0 }
-    ensures idle { result.status ≢ 0 → result.status ≢ 5 → result.floods ≡ 0 }
-    ensures no_line { result.status ≢ 2 → result.told ≡ 0 }
+    ensures silent { IsSilentQueues result.written result.queues result.good result.told result.floods result.status }
 {
     let answered = answer_words::<Brand>(alloc, Blank::new(1), words, input, bits);
     match answered.answer {
@@ -162,31 +159,13 @@ pub extern "C" fn voidosier_good_queues(
     err_length: &mut usize,
     floods: &mut u64,
 ) -> u8
-    ensures status { IsQueuesStatus result }
-    // Which bytes of the buffers change.
-    ensures bits_within { bits_length.new ≤ length bits.new }
-    ensures bits_rest { drop bits_length.new bits.new ≡ drop bits_length.new bits.old }
-    ensures err_within { err_length.new ≤ length err.new }
-    ensures err_rest { drop err_length.new err.new ≡ drop err_length.new err.old }
-    // What each status means.
-    ensures done { (texts : List (List ℕ)) → SpellsWords words.now texts → result ≡ 0
-        → WritesBits texts input.now (take bits_length.new bits.new) queues.new good.new }
-    ensures faulty { (texts : List (List ℕ)) → SpellsWords words.now texts → result ≡ 2
-        → TellsAskedFault is_percent texts input.now (take err_length.new err.new) (length err.old) }
-    ensures no_room { (texts : List (List ℕ)) → SpellsWords words.now texts → result ≡ 4
-        → LacksBitRoom texts input.now (length bits.old) queues.new }
-    ensures no_memory { (texts : List (List ℕ)) → SpellsWords words.now texts → result ≡ 5
-        → (floods.new ≡ 0) ⊎ HasBitRoom texts input.now (length bits.old) }
-    ensures other { (texts : List (List ℕ)) → SpellsWords words.now texts → result ≡ 7
-        → asks_other is_percent texts ≡ true }
-    ensures other_ends { (texts : List (List ℕ)) → SpellsWords words.now texts → asks_other is_percent texts ≡ true
-        → (result ≡ 5) ⊎ (result ≡ 7) }
-    ensures no_words { result ≡ 6 → SpellsNoWords words.now }
-    ensures unspelled { SpellsNoWords words.now → (result ≡ 5) ⊎ (result ≡ 6) }
-    ensures quiet { result ≢ 0 → (bits_length.new ≡ 0) × (good.new ≡ 0) }
-    ensures uncounted { result ≢ 0 → result ≢ 4 → queues.new ≡ 0 }
-    ensures idle { result ≢ 0 → result ≢ 5 → floods.new ≡ 0 }
-    ensures no_line { result ≢ 2 → err_length.new ≡ 0 }
+    ensures status { IsStatusOf IsQueuesStatus words.now result }
+    ensures bits { ChangesFront bits.old bits.new bits_length.new }
+    ensures err { ChangesFront err.old err.new err_length.new }
+    ensures ended { (texts : List (List ℕ)) → SpellsWords words.now texts
+        → EndsQueues texts input.now (take bits_length.new bits.new) (length bits.old) queues.new good.new
+        (take err_length.new err.new) (length err.old) floods.new result }
+    ensures silent { IsSilentQueues bits_length.new queues.new good.new err_length.new floods.new result }
 {
     *bits_length = 0;
     *queues = 0;
@@ -203,7 +182,6 @@ pub extern "C" fn voidosier_good_queues(
             *floods = ended.floods;
             ended.status
         }
-        Err(NoWords::Unspelled) => NO_WORDS,
-        Err(NoWords::NoMemory) => NO_MEMORY,
+        Err(none) => none.status(),
     }
 }

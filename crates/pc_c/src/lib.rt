@@ -1,12 +1,12 @@
 // The commands, called from C.
 #![tactic(auto)]
 
-ghost use Rattle.std.specs.Prelude.{◌≡◌, ◌≢◌, ◌≤◌, ◌⊎◌, ℕ, List, length, take, drop};
+ghost use Rattle.std.specs.Prelude.{◌≡◌, ◌≢◌, ◌⊎◌, ℕ, List, length, take};
 ghost use Rattle.pc_words.specs.Words.{texts};
 ghost use Rattle.pc_app.specs.Tasks.{task_of};
-ghost use Rattle.pc_c.specs.Call.{ForFloods, IsStatus, TellsFault, WritesCut, WritesFront, WritesOutput, seen};
+ghost use Rattle.pc_c.specs.Call.{ChangesFront, EndsRun, IsStatus, IsStatusOf, seen};
 ghost use Rattle.pc_c.specs.Ended.{EndedBy};
-ghost use Rattle.pc_c.specs.Words.{SpellsNoWords, SpellsWords};
+ghost use Rattle.pc_c.specs.Words.{SpellsWords};
 
 mod answer;
 mod good_queues;
@@ -18,11 +18,10 @@ mod words;
 
 use pc_outside::SliceSink;
 use slots::run_into;
-use status::{NO_MEMORY, NO_WORDS};
 use std::alloc::Global;
 use std::marker::Brand;
 use std::sync::ledger::Blank;
-use words::{NoWords, words_in};
+use words::words_in;
 
 /// The status of a call, how many bytes it wrote to each buffer, and how many floods it made.
 #[derive(Drop)]
@@ -35,10 +34,8 @@ struct Ended {
 
 /// Runs the words over the input and writes to these buffers.
 fn run_words(alloc: Global, words: &[String], input: &[u8], out: &mut [u8], err: &mut [u8]) -> Ended
-    ensures written { result.written ≤ length out.new }
-    ensures told { result.told ≤ length err.new }
-    ensures out_rest { drop result.written out.new ≡ drop result.written out.old }
-    ensures err_rest { drop result.told err.new ≡ drop result.told err.old }
+    ensures out { ChangesFront out.old out.new result.written }
+    ensures err { ChangesFront err.old err.new result.told }
     ensures ended { let task = task_of (texts words.now) in
         EndedBy task (seen task input.now) (take result.written out.new) (length out.old)
         result.floods (take result.told err.new) (length err.old) result.status }
@@ -78,30 +75,17 @@ pub extern "C" fn voidosier_run(
     err_length: &mut usize,
     floods: &mut u64,
 ) -> u8
-    ensures status { IsStatus result }
+    ensures status { IsStatusOf IsStatus words.now result }
     // Which bytes of the buffers change.
-    ensures out_within { out_length.new ≤ length out.new }
-    ensures out_rest { drop out_length.new out.new ≡ drop out_length.new out.old }
-    ensures err_within { err_length.new ≤ length err.new }
-    ensures err_rest { drop err_length.new err.new ≡ drop err_length.new err.old }
+    ensures out { ChangesFront out.old out.new out_length.new }
+    ensures err { ChangesFront err.old err.new err_length.new }
     // What each status means.
-    ensures done { (texts : List (List ℕ)) → SpellsWords words.now texts → result ≡ 0
-        → let task = task_of texts in
-        ForFloods floods.new (WritesOutput task (seen task input.now) (take out_length.new out.new)) }
-    ensures faulty { (texts : List (List ℕ)) → SpellsWords words.now texts → result ≡ 2
-        → let task = task_of texts in
-        TellsFault task (seen task input.now) (take err_length.new err.new) (length err.old) }
-    ensures cut { (texts : List (List ℕ)) → SpellsWords words.now texts → result ≡ 4
-        → let task = task_of texts in
-        ForFloods floods.new (WritesCut task (seen task input.now) (take out_length.new out.new) (length out.old)) }
-    ensures no_memory { (texts : List (List ℕ)) → SpellsWords words.now texts → result ≡ 5
-        → let task = task_of texts in
-        ForFloods floods.new (WritesFront task (seen task input.now) (take out_length.new out.new)) }
-    ensures no_words { result ≡ 6 → SpellsNoWords words.now }
-    ensures unspelled { SpellsNoWords words.now → (result ≡ 5) ⊎ (result ≡ 6) }
+    ensures ended { (texts : List (List ℕ)) → SpellsWords words.now texts
+        → EndsRun texts input.now (take out_length.new out.new) (length out.old)
+        (take err_length.new err.new) (length err.old) floods.new result }
     ensures quiet { (result ≡ 2) ⊎ (result ≡ 6) → out_length.new ≡ 0 }
-    ensures idle { (result ≡ 2) ⊎ (result ≡ 6) → floods.new ≡ 0 }
     ensures no_line { result ≢ 2 → err_length.new ≡ 0 }
+    ensures idle { (result ≡ 2) ⊎ (result ≡ 6) → floods.new ≡ 0 }
 {
     *out_length = 0;
     *err_length = 0;
@@ -114,7 +98,6 @@ pub extern "C" fn voidosier_run(
             *floods = ended.floods;
             ended.status
         }
-        Err(NoWords::Unspelled) => NO_WORDS,
-        Err(NoWords::NoMemory) => NO_MEMORY,
+        Err(none) => none.status(),
     }
 }

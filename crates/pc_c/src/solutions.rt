@@ -1,20 +1,19 @@
 // The solutions that `path` lists as numbers, called from C.
-ghost use Rattle.std.specs.Prelude.{◌≡◌, ◌≢◌, ◌<◌, ◌≤◌, ◌==◌, ◌⊎◌, ℕ, List, true, Ok, MatchOption, length, take, drop};
+ghost use Rattle.std.specs.Prelude.{◌≡◌, ◌≢◌, ◌<◌, ◌≤◌, ◌==◌, ℕ, List, true, Ok, MatchOption, length, take};
 ghost use Rattle.pc_words.specs.Views.{settings_view};
 ghost use Rattle.pc_words.specs.Words.{texts};
 ghost use Rattle.pc_words.specs.declared.settings.Settings.{Settings};
-ghost use Rattle.pc_c.specs.Asked.{TellsAskedFault};
-ghost use Rattle.pc_c.specs.Call.{ForFloods};
-ghost use Rattle.pc_c.specs.Solutions.{IsSolutionsStatus, LacksRoom, LacksSequence, TellsSolutions};
-ghost use Rattle.pc_c.specs.OtherCommand.{asks_other, is_other, is_path};
+ghost use Rattle.pc_c.specs.Call.{ChangesFront, ForFloods, IsStatusOf};
+ghost use Rattle.pc_c.specs.Solutions.{EndsSolutions, IsSilentSolutions, IsSolutionsStatus};
+ghost use Rattle.pc_c.specs.OtherCommand.{is_other, is_path};
 ghost use Rattle.pc_c.specs.SolutionsEnded.{IsPathAnswer};
-ghost use Rattle.pc_c.specs.Words.{SpellsNoWords, SpellsWords};
+ghost use Rattle.pc_c.specs.Words.{SpellsWords};
 
 use crate::answer::{Answer, Answered, answer_of, idle};
 use crate::input::seen_bytes;
 use crate::slots::write_line;
-use crate::status::{DONE, FAULT, NO_MEMORY, NO_ROOM, NO_SEQUENCE, NO_WORDS, OTHER_COMMAND};
-use crate::words::{NoWords, words_in};
+use crate::status::{DONE, FAULT, NO_MEMORY, NO_ROOM, NO_SEQUENCE, OTHER_COMMAND};
+use crate::words::words_in;
 use pc_settings::PathSettings;
 use pc_solutions::{Refusal, Written, write_solutions};
 use pc_source::is_of_source;
@@ -23,6 +22,17 @@ use reach::Steps;
 use std::alloc::Global;
 use std::marker::Brand;
 use std::sync::ledger::{Blank, Ledger};
+
+/// The status of a call, how many bytes it wrote to each buffer, and the numbers that it tells.
+#[derive(Drop)]
+struct SolutionsEnded {
+    status: u8,
+    written: usize,
+    count: u32,
+    ended: u8,
+    told: usize,
+    floods: u64,
+}
 
 /// The settings of `path`, if these are its settings.
 fn of_path(settings: Settings<'_>) -> Option<PathSettings<'_>>
@@ -78,6 +88,66 @@ fn flag(holds: bool) -> u8
     if holds { 1 } else { 0 }
 }
 
+/// The end of a call that writes nothing and tells no numbers.
+fn quiet(status: u8) -> SolutionsEnded
+    ensures { result ≡ record {
+      status = status;
+      written = 0;
+      count = 0;
+      ended = 0;
+      told = 0;
+      floods = 0;
+    } }
+{
+    SolutionsEnded {
+        status,
+        written: 0,
+        count: 0,
+        ended: 0,
+        told: 0,
+        floods: 0,
+    }
+}
+
+/// Answers the words over the input and writes to these buffers.
+fn run_solutions(
+    alloc: Global,
+    words: &[String],
+    input: &[u8],
+    after: &[u8],
+    placements: &mut [u8],
+    err: &mut [u8],
+) -> SolutionsEnded
+    ensures status { IsSolutionsStatus result.status }
+    ensures worded { result.status ≢ 6 }
+    ensures placements { ChangesFront placements.old placements.new result.written }
+    ensures err { ChangesFront err.old err.new result.told }
+    ensures ended { EndsSolutions (texts words.now) input.now after.now (length placements.old)
+        (take result.written placements.new) result.count result.ended (take result.told err.new) (length err.old)
+        result.floods result.status }
+    ensures silent { IsSilentSolutions result.written result.count result.ended result.told result.floods
+        result.status }
+{
+    let answered = answer_words::<Brand>(alloc, Blank::new(1), words, input, after, placements);
+    match answered.answer {
+        Answer::Written(written) => SolutionsEnded {
+            written: written.size,
+            count: written.count,
+            ended: flag(written.ended),
+            floods: answered.floods,
+            ..quiet(DONE)
+        },
+        Answer::OtherCommand => quiet(OTHER_COMMAND),
+        Answer::Unwritten(Refusal::Input(fault)) => SolutionsEnded {
+            told: write_line(fault, err),
+            ..quiet(FAULT)
+        },
+        Answer::Unwritten(Refusal::NoSequence) => quiet(NO_SEQUENCE),
+        Answer::Unwritten(Refusal::NoRoom) => quiet(NO_ROOM),
+        Answer::Unwritten(Refusal::NoMemory) => quiet(NO_MEMORY),
+    }
+}
+
 /// Writes the solutions that a command line of `path` lists as numbers: of each placement its piece (1 to 7 in the
 /// order I, L, O, Z, T, J, S), its rotation (0 to 3 in the order 0, R, 2, L), and the column and the row of its pivot,
 /// a byte each. `count` is how many solutions were written: as many as there are, but no more than `--limit` allows,
@@ -103,64 +173,29 @@ pub extern "C" fn voidosier_solutions(
     err_length: &mut usize,
     floods: &mut u64,
 ) -> u8
-    ensures status { IsSolutionsStatus result }
-    // Which bytes of the buffers change.
-    ensures within { placements_length.new ≤ length placements.new }
-    ensures rest { drop placements_length.new placements.new ≡ drop placements_length.new placements.old }
-    ensures err_within { err_length.new ≤ length err.new }
-    ensures err_rest { drop err_length.new err.new ≡ drop err_length.new err.old }
-    // What each status means.
-    ensures done { (texts : List (List ℕ)) → SpellsWords words.now texts → result ≡ 0
-        → TellsSolutions texts input.now after.now (length placements.old)
-        (take placements_length.new placements.new) count.new ended.new floods.new }
-    ensures faulty { (texts : List (List ℕ)) → SpellsWords words.now texts → result ≡ 2
-        → TellsAskedFault is_path texts input.now (take err_length.new err.new) (length err.old) }
-    ensures no_room { (texts : List (List ℕ)) → SpellsWords words.now texts → result ≡ 4
-        → LacksRoom texts input.now after.now (length placements.old) }
-    ensures no_sequence { (texts : List (List ℕ)) → SpellsWords words.now texts → result ≡ 8
-        → LacksSequence texts input.now after.now }
-    ensures other { (texts : List (List ℕ)) → SpellsWords words.now texts → result ≡ 7
-        → asks_other is_path texts ≡ true }
-    ensures other_ends { (texts : List (List ℕ)) → SpellsWords words.now texts → asks_other is_path texts ≡ true
-        → (result ≡ 5) ⊎ (result ≡ 7) }
-    ensures no_words { result ≡ 6 → SpellsNoWords words.now }
-    ensures unspelled { SpellsNoWords words.now → (result ≡ 5) ⊎ (result ≡ 6) }
-    ensures told { ended.new ≤ 1 }
-    ensures quiet { result ≢ 0 → (placements_length.new ≡ 0) × (count.new ≡ 0) × (ended.new ≡ 0) }
-    ensures idle { result ≢ 0 → floods.new ≡ 0 }
-    ensures no_line { result ≢ 2 → err_length.new ≡ 0 }
+    ensures status { IsStatusOf IsSolutionsStatus words.now result }
+    ensures placements { ChangesFront placements.old placements.new placements_length.new }
+    ensures err { ChangesFront err.old err.new err_length.new }
+    ensures ended { (texts : List (List ℕ)) → SpellsWords words.now texts
+        → EndsSolutions texts input.now after.now (length placements.old) (take placements_length.new placements.new)
+        count.new ended.new (take err_length.new err.new) (length err.old) floods.new result }
+    ensures silent { IsSilentSolutions placements_length.new count.new ended.new err_length.new floods.new result }
 {
     *placements_length = 0;
     *count = 0;
     *ended = 0;
     *err_length = 0;
     *floods = 0;
-    let texts = match words_in(alloc, words) {
-        Ok(texts) => texts,
-        Err(NoWords::Unspelled) => return NO_WORDS,
-        Err(NoWords::NoMemory) => return NO_MEMORY,
-    };
-    let Answered {
-        answer,
-        floods: made,
-    } = answer_words::<Brand>(alloc, Blank::new(1), &texts, input, after, placements);
-    match answer {
-        Answer::Written(written) => {
-            *placements_length = written.size;
-            *count = written.count;
-            *ended = flag(written.ended);
-            *floods = made;
-            DONE
+    match words_in(alloc, words) {
+        Ok(texts) => {
+            let end = run_solutions(alloc, &texts, input, after, placements, err);
+            *placements_length = end.written;
+            *count = end.count;
+            *ended = end.ended;
+            *err_length = end.told;
+            *floods = end.floods;
+            end.status
         }
-        Answer::OtherCommand => OTHER_COMMAND,
-        Answer::Unwritten(refusal) => match refusal {
-            Refusal::Input(fault) => {
-                *err_length = write_line(fault, err);
-                FAULT
-            }
-            Refusal::NoSequence => NO_SEQUENCE,
-            Refusal::NoRoom => NO_ROOM,
-            Refusal::NoMemory => NO_MEMORY,
-        },
+        Err(none) => none.status(),
     }
 }

@@ -4,6 +4,7 @@ ghost use Rattle.pc_words.specs.Words.{texts};
 ghost use Rattle.pc_c.specs.declared.words.NoWords.{NoWords};
 ghost use Rattle.pc_c.specs.Words.{SpellsNoWords, SpellsWords};
 
+use crate::status::{NO_MEMORY, NO_WORDS};
 use std::alloc::{AllocError, AllocFailed, Global};
 
 /// Why there are no words.
@@ -13,6 +14,19 @@ pub(crate) enum NoWords {
     Unspelled,
     /// There is not enough memory for them.
     NoMemory,
+}
+
+impl NoWords {
+    /// The status of a call that has no words.
+    pub(crate) fn status(self) -> u8
+        ensures unspelled { self ≡ NoWords.Unspelled → result ≡ 6 }
+        ensures no_memory { self ≡ NoWords.NoMemory → result ≡ 5 }
+    {
+        match self {
+            NoWords::Unspelled => NO_WORDS,
+            NoWords::NoMemory => NO_MEMORY,
+        }
+    }
 }
 
 impl From<AllocError> for NoWords {

@@ -1,74 +1,27 @@
 -- The words that the text spells are those that were answered.
-use Rattle.std.proofs.Common.{◌∙◌, length, take, ap}
+use Rattle.std.proofs.Common.{ℕ, List, Err, length, take, ap, inl, subst, ◌∙◌}
 use Rattle.pc_words.specs.Words.{texts}
-use Rattle.pc_c.proofs.SolutionLemmas.{not_both, path_asked, tells, was_fault, was_no_room, was_no_sequence, was_other, was_written}
-use Rattle.pc_c.proofs.WordLemmas.{one_spelling}
+use Rattle.pc_c.specs.Solutions.{EndsSolutions, IsSolutionsStatus}
+use Rattle.pc_c.proofs.SolutionLemmas.{ends_wanting}
+use Rattle.pc_c.proofs.WordLemmas.{none_status, none_wanting, one_spelling, status_five, status_six, worded_status}
 use Rattle.pc_c.proofs.solutions.voidosier_solutions.Goals as goal
 
-pub returns-in-Written-clause-done : goal.returns-in-Written-clause-done
-returns-in-Written-clause-done c = λ words is status.
-    let same = ap texts c.deref.ensures.value ∙ one_spelling c.args.words.now (texts c.in-Ok.texts.items) words c.in-Ok.ensures.spelled is in
-    let found = c.answer_words-answer.ensures in
-    let written = c.in-Written.written in
-    tells words c.args.input.now c.args.after.now (take written.size c.answer_words-answer.new.placements) (length c.args.placements.now) written.count c.flag.result
-    c.answer_words-answer.result.floods found.floods written.ended found.counted c.flag.ensures.same
-    (was_written _ words same c.args.input.now c.args.after.now c.args.placements.now c.answer_words-answer.new.placements found.floods c.answer_words-answer.result.answer found.holds written c.in-Written.is)
+pub returns-in-Ok-clause-status : goal.returns-in-Ok-clause-status
+returns-in-Ok-clause-status c =
+    worded_status IsSolutionsStatus c.args.words.now (texts c.in-Ok.texts.items) c.run_solutions-end.result.status c.in-Ok.ensures.spelled c.run_solutions-end.ensures.status c.run_solutions-end.ensures.worded
 
-pub returns-in-Written-clause-other_ends : goal.returns-in-Written-clause-other_ends
-returns-in-Written-clause-other_ends c = λ words is other.
+pub returns-in-Ok-clause-ended : goal.returns-in-Ok-clause-ended
+returns-in-Ok-clause-ended c = λ words is.
     let same = ap texts c.deref.ensures.value ∙ one_spelling c.args.words.now (texts c.in-Ok.texts.items) words c.in-Ok.ensures.spelled is in
-    let found = c.answer_words-answer.ensures in
-    absurd (path_asked words c.args.input.now
-    (was_written _ words same c.args.input.now c.args.after.now c.args.placements.now c.answer_words-answer.new.placements found.floods c.answer_words-answer.result.answer found.holds c.in-Written.written c.in-Written.is)
-    other)
+    let end = c.run_solutions-end.result in
+    let new = c.run_solutions-end.new in
+    subst (λ (words : List (List ℕ)). EndsSolutions words c.args.input.now c.args.after.now (length c.args.placements.now) (take end.written new.placements) end.count end.ended (take end.told new.err) (length c.args.err.now) end.floods end.status) same
+    c.run_solutions-end.ensures.ended
 
-pub returns-in-OtherCommand-clause-other : goal.returns-in-OtherCommand-clause-other
-returns-in-OtherCommand-clause-other c = λ words is status.
-    let same = ap texts c.deref.ensures.value ∙ one_spelling c.args.words.now (texts c.in-Ok.texts.items) words c.in-Ok.ensures.spelled is in
-    let found = c.answer_words-answer.ensures in
-    was_other _ words same c.args.input.now c.args.after.now c.args.placements.now c.answer_words-answer.new.placements found.floods c.answer_words-answer.result.answer found.holds c.in-OtherCommand.is
+pub returns-in-Err-clause-status : goal.returns-in-Err-clause-status
+returns-in-Err-clause-status c =
+    none_status IsSolutionsStatus (inl status_five) (inl status_six) c.args.words.now c.in-Err.none c.status.result c.status.ensures.unspelled c.status.ensures.no_memory (λ is. c.in-Err.ensures.unspelled (ap (λ e. Err e) is))
 
-pub returns-in-Input-clause-faulty : goal.returns-in-Input-clause-faulty
-returns-in-Input-clause-faulty c = λ words is status.
-    let same = ap texts c.deref.ensures.value ∙ one_spelling c.args.words.now (texts c.in-Ok.texts.items) words c.in-Ok.ensures.spelled is in
-    let found = c.answer_words-answer.ensures in
-    let fault = was_fault _ words same c.args.input.now c.args.after.now c.args.placements.now c.answer_words-answer.new.placements found.floods c.answer_words-answer.result.answer found.holds
-    c.in-Unwritten.refusal c.in-Unwritten.is c.in-Input.fault c.in-Input.is in
-    record { no_other = fault.no_other; fault = record { fault = c.in-Input.fault; first = fault.first; line = c.write_line.ensures.line } }
-
-pub returns-in-Input-clause-other_ends : goal.returns-in-Input-clause-other_ends
-returns-in-Input-clause-other_ends c = λ words is other.
-    let same = ap texts c.deref.ensures.value ∙ one_spelling c.args.words.now (texts c.in-Ok.texts.items) words c.in-Ok.ensures.spelled is in
-    let found = c.answer_words-answer.ensures in
-    absurd (not_both words (was_fault _ words same c.args.input.now c.args.after.now c.args.placements.now c.answer_words-answer.new.placements found.floods c.answer_words-answer.result.answer found.holds
-    c.in-Unwritten.refusal c.in-Unwritten.is c.in-Input.fault c.in-Input.is).no_other other)
-
-pub returns-in-NoSequence-clause-no_sequence : goal.returns-in-NoSequence-clause-no_sequence
-returns-in-NoSequence-clause-no_sequence c = λ words is status.
-    let same = ap texts c.deref.ensures.value ∙ one_spelling c.args.words.now (texts c.in-Ok.texts.items) words c.in-Ok.ensures.spelled is in
-    let found = c.answer_words-answer.ensures in
-    was_no_sequence _ words same c.args.input.now c.args.after.now c.args.placements.now c.answer_words-answer.new.placements found.floods c.answer_words-answer.result.answer found.holds
-    c.in-Unwritten.refusal c.in-Unwritten.is c.in-NoSequence.is
-
-pub returns-in-NoSequence-clause-other_ends : goal.returns-in-NoSequence-clause-other_ends
-returns-in-NoSequence-clause-other_ends c = λ words is other.
-    let same = ap texts c.deref.ensures.value ∙ one_spelling c.args.words.now (texts c.in-Ok.texts.items) words c.in-Ok.ensures.spelled is in
-    let found = c.answer_words-answer.ensures in
-    absurd (path_asked words c.args.input.now
-    (was_no_sequence _ words same c.args.input.now c.args.after.now c.args.placements.now c.answer_words-answer.new.placements found.floods c.answer_words-answer.result.answer found.holds
-    c.in-Unwritten.refusal c.in-Unwritten.is c.in-NoSequence.is) other)
-
-pub returns-in-NoRoom-clause-no_room : goal.returns-in-NoRoom-clause-no_room
-returns-in-NoRoom-clause-no_room c = λ words is status.
-    let same = ap texts c.deref.ensures.value ∙ one_spelling c.args.words.now (texts c.in-Ok.texts.items) words c.in-Ok.ensures.spelled is in
-    let found = c.answer_words-answer.ensures in
-    was_no_room _ words same c.args.input.now c.args.after.now c.args.placements.now c.answer_words-answer.new.placements found.floods c.answer_words-answer.result.answer found.holds
-    c.in-Unwritten.refusal c.in-Unwritten.is c.in-NoRoom.is
-
-pub returns-in-NoRoom-clause-other_ends : goal.returns-in-NoRoom-clause-other_ends
-returns-in-NoRoom-clause-other_ends c = λ words is other.
-    let same = ap texts c.deref.ensures.value ∙ one_spelling c.args.words.now (texts c.in-Ok.texts.items) words c.in-Ok.ensures.spelled is in
-    let found = c.answer_words-answer.ensures in
-    absurd (path_asked words c.args.input.now
-    (was_no_room _ words same c.args.input.now c.args.after.now c.args.placements.now c.answer_words-answer.new.placements found.floods c.answer_words-answer.result.answer found.holds
-    c.in-Unwritten.refusal c.in-Unwritten.is c.in-NoRoom.is) other)
+pub returns-in-Err-clause-ended : goal.returns-in-Err-clause-ended
+returns-in-Err-clause-ended c = λ words is.
+    ends_wanting words c.args.input.now c.args.after.now _ _ _ _ _ _ _ c.status.result (none_wanting c.args.words.now c.in-Err.none c.status.result c.status.ensures.no_memory (λ is. c.in-Err.ensures.unspelled (ap (λ e. Err e) is)) words is)
