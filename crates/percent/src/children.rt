@@ -159,13 +159,7 @@ impl Marks {
     {
         let position = &self.position;
         let wanted = self.wanted(piece, left, asked);
-        let mut places = kept.flood.places_below(
-            &position.well,
-            piece,
-            kept.game.drop_mode,
-            position.rows,
-            steps,
-        );
+        let mut places = kept.places_below(position, piece, steps);
         let pieces = self.standing_pieces(alloc, piece, wanted.unwrap_or(u64::MAX));
         let mut children = Vec::new(alloc);
         while let Some(placement) = places.take_least() {

@@ -10,8 +10,11 @@ use crate::position::{Position, hash_of};
 use fact_table::{Entry, FactTable};
 use number_sets::{merged, without};
 use pc_outside::NoMemory;
-use reach::FloodRules;
+use place_sets::LowPlaces;
+use reach::{FloodRules, Steps};
+use srs::Piece;
 use std::alloc::Global;
+use std::sync::ledger::Ledger;
 use tiled_pieces::Lister;
 use well::cells_below;
 
@@ -74,8 +77,12 @@ impl Kept {
     ghost use Rattle.std.specs.Prelude.{◌↔◌, ℕ, ◌+◌, ◌&&◌, ◌||◌, true, false, Contains, IfOk, IfSome, IsTrue};
     ghost use Rattle.fact_table.specs.Entries.{with_entry};
     ghost use Rattle.number_sets.specs.Rising.{IsRising, has};
+    ghost use Rattle.srs.specs.declared.placement.Placement.{Placement};
     ghost use Rattle.well.specs.CellBits.{cells_in_bits};
+    ghost use Rattle.well.specs.LockLaws.{is_below};
     ghost use Rattle.well.specs.Well.{filled};
+    ghost use Rattle.moves.specs.Place.{IsPlace};
+    ghost use Rattle.place_sets.specs.LowPlaces.{holds, piece_of};
     ghost use Rattle.percent.specs.GoodHands.{is_good};
 
     /// A store for this many positions, best a power of two, without answers. If there is not enough memory for them,
@@ -91,6 +98,24 @@ impl Kept {
             slots: FactTable::within_memory(alloc, room),
             count: 0,
         }
+    }
+
+    /// The places of a piece at a position that lie below the rows left. Counts one flood.
+    pub fn places_below<L: Ledger>(
+        &self,
+        position: &Position,
+        piece: Piece,
+        steps: &mut Steps<L>,
+    ) -> LowPlaces
+        ensures piece { piece_of result ≡ piece }
+        ensures held { (q : Placement) → (IsTrue (holds result q)) ↔ ((q.piece ≡ piece)
+            × IsPlace (flood_table self.now.flood) (filled position.now.well) self.now.game.drop_mode q
+            × IsTrue (is_below position.now.rows q)) }
+        ensures counted { steps.new ≡ steps.old + 1 }
+    {
+        let drop_mode = self.game.drop_mode;
+        self.flood
+            .places_below(&position.well, piece, drop_mode, position.rows, steps)
     }
 
     /// The hands that are known to be good at a position, and those that are known not to be.
