@@ -9,8 +9,8 @@ use Rattle.lane_board.specs.Lanes.{has_bit}
 use Rattle.lane_board.proofs.CallerLemmas.{has_bit-or}
 use Rattle.hold_queue.specs.declared.hold.Hold.{Hold}
 use Rattle.hold_queue.specs.declared.hold.Hold.TheVariants.{Allowed, Avoided}
-use Rattle.percent.specs.BuiltHands.{AllowsTaken, code_at, first_weights}
 use Rattle.percent.specs.Building.{AreNoted, KeepsBits}
+use Rattle.percent.specs.Weights.{AllowsTaken, code_at, first_weights}
 use Rattle.percent.proofs.MarkLemmas.{own_bit}
 use Rattle.percent.proofs.ServedLemmas.{allows-but-one, allows-first}
 

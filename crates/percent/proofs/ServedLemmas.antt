@@ -16,7 +16,8 @@ use Rattle.tiled_pieces.specs.TilingLists.{HasPiece, LaidPiece, laid_part}
 use Rattle.tiled_pieces.specs.RowOrders.{ListsOrdered}
 use Rattle.tiled_pieces.proofs.CallerLemmas.{built-can-go}
 use Rattle.tiled_pieces.specs.Served.{AreAllowed, IsServed, with_weight}
-use Rattle.percent.specs.BuiltHands.{AllowsTaken, IsBuiltBy, IsHardSrs, code_at, first_weights, takes_all, weight_of}
+use Rattle.percent.specs.BuiltHands.{IsBuiltBy, IsHardSrs, takes_all}
+use Rattle.percent.specs.Weights.{AllowsTaken, code_at, first_weights, weight_of}
 use Rattle.percent.specs.declared.game.Game.{Game}
 use Rattle.percent.specs.declared.marks.Mark.{Mark}
 use Rattle.percent.specs.declared.position.Position.{Position}

@@ -11,10 +11,10 @@ use Rattle.percent.specs.declared.building.Block.{Block}
 use Rattle.percent.specs.declared.building.Question.{Question}
 use Rattle.percent.specs.declared.marks.Mark.{Mark}
 use Rattle.percent.specs.declared.position.Position.{Position}
-use Rattle.percent.specs.BuiltHands.{AllowsTaken}
 use Rattle.percent.specs.Fitting.{codes_in}
 use Rattle.percent.specs.GoodHands.{is_good}
 use Rattle.percent.specs.Marks.{HasMarkAt}
+use Rattle.percent.specs.Weights.{AllowsTaken}
 
 -- no bit is lost
 pub record KeepsBits (old new : List ℕ) : Type 0 where

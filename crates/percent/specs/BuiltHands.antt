@@ -1,7 +1,6 @@
 -- Hands that permit the pieces of a tiling to be put in place in some order.
-use Rattle.std.specs.Prelude.{◌≡◌, ℕ, zero, suc, ◌+◌, ◌/◌, ◌%◌, ◌<◌, ◌≤◌, Bool, true, List, [], ◌∷◌, length, map, slice_index}
+use Rattle.std.specs.Prelude.{◌≡◌, ℕ, suc, Bool, true, List, [], ◌∷◌, length, map}
 use Rattle.lane_board.specs.Field.{Field}
-use Rattle.lane_board.specs.Lanes.{has_bit}
 use Rattle.srs.specs.declared.piece.Piece.{Piece}
 use Rattle.srs.specs.Kick.{srs_table}
 use Rattle.srs.specs.Piece.{piece_code}
@@ -36,26 +35,3 @@ pub record IsBuiltBy (E : Field) (drops : Bool) (hold : Hold) (left hand : ℕ) 
 pub record IsHardSrs (game : Game) : Type 0 where
   pub mode : game.drop_mode ≡ Hard
   pub table : table_of game.rules ≡ srs_table
-
--- ---- the weights of kinds
-
--- the sum of the weights of kinds
-unfoldable pub weight_of : List ℕ → List Piece → ℕ
-weight_of weights [] = 0
-weight_of weights (piece ∷ more) = slice_index weights (piece_code piece) + weight_of weights more
-
--- The bit is set in what is allowed at the sum of the weights of any pieces, at most so many, that can be taken from
--- the hand.
-pub record AllowsTaken (hold : Hold) (left hand : ℕ) (weights allowed : List ℕ) (bit : ℕ) : Type 0 where
-  pub each : (pieces : List Piece) → 0 < length pieces → length pieces ≤ left → takes_all hold hand pieces ≡ true
-      → has_bit (slice_index allowed (weight_of weights pieces)) bit ≡ true
-
--- the code of the piece at an index of a hand
-unfoldable pub code_at : ℕ → ℕ → ℕ
-code_at hand zero = hand % 8
-code_at hand (suc i) = code_at (hand / 8) i
-
--- the sum of the weights of the first so many pieces of a hand
-unfoldable pub first_weights : List ℕ → ℕ → ℕ → ℕ
-first_weights weights zero hand = 0
-first_weights weights (suc count) hand = slice_index weights (hand % 8) + first_weights weights count (hand / 8)

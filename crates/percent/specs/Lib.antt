@@ -7,6 +7,7 @@ pub mod OpenRows
 pub mod Fitting
 pub mod BuiltHands
 -- What serves proofs alone
+pub mod Weights
 pub mod Kept
 pub mod Children
 pub mod Spread

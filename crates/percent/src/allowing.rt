@@ -2,8 +2,8 @@
 ghost use Rattle.std.specs.Prelude.{◌≡◌, ℕ, ◌≤◌, ◌<◌, ◌+◌, length, slice_index, true};
 ghost use Rattle.lane_board.specs.Lanes.{has_bit};
 ghost use Rattle.hold_queue.specs.declared.hold.Hold.TheVariants;
-ghost use Rattle.percent.specs.BuiltHands;
-ghost use Rattle.percent.specs.BuiltHands.{AllowsTaken, code_at};
+ghost use Rattle.percent.specs.Weights;
+ghost use Rattle.percent.specs.Weights.{AllowsTaken, code_at};
 ghost use Rattle.percent.specs.Building.{AreNoted, KeepsBits};
 
 use crate::fitting::Counts;
@@ -25,7 +25,7 @@ pub fn weights_of(counts: &Counts) -> [u16; 8] {
 
 /// The sum of the weights of the first `count` pieces of a hand.
 fn first_weights(weights: &[u16; 8], count: u8, hand: u64) -> usize
-    ensures { result ≡ BuiltHands.first_weights weights.now count hand }
+    ensures { result ≡ Weights.first_weights weights.now count hand }
 {
     let mut sum = 0;
     let mut rest = hand;
@@ -70,7 +70,7 @@ fn allow_all_but_one(allowed: &mut Sums, weights: &[u16; 8], count: u8, hand: u6
     requires { bit < 64 }
     ensures kept { KeepsBits allowed.old allowed.new }
     ensures allows { result ≡ true → (index sum : ℕ) → index < count
-        → sum + slice_index weights.now (code_at hand index) ≡ BuiltHands.first_weights weights.now count hand
+        → sum + slice_index weights.now (code_at hand index) ≡ Weights.first_weights weights.now count hand
         → has_bit (slice_index allowed.new sum) bit ≡ true }
 {
     let whole = first_weights(weights, count, hand);
