@@ -52,7 +52,7 @@ fn keep(tree: &mut Tree, lists: &mut IndexSet<Kinds>, kinds: Kinds) -> Result<()
 }
 
 impl CoverSet {
-    ghost use Rattle.std.specs.Prelude.{ℕ, ◌+◌, ◌≤◌, ◌↔◌, [], IfOk, IsOk, OnErr, IsTrue, length, if◌then◌else◌};
+    ghost use Rattle.std.specs.Prelude.{◌+◌, ◌≤◌, ◌↔◌, [], IfOk, IsOk, OnErr, IsTrue, length};
     ghost use Rattle.queue_pattern.specs.Pattern.{elements_of};
     ghost use Rattle.queue_pattern.specs.Queues.{queues};
     ghost use Rattle.problem.specs.Solution.{pieces_of};

@@ -18,7 +18,6 @@ ghost use Rattle.percent.specs.Spread.{IsSpread};
 
 use crate::fitting::{Counts, FitMemory, are_same, counts_of, fitting};
 use crate::position::{Child, Position};
-use crate::spread::rows_among;
 use empty_cells::Empties;
 use pc_outside::NoMemory;
 use srs::{Piece, Placement};
