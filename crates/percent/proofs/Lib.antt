@@ -1,5 +1,4 @@
 -- The lemmas of this crate.
-mod TestLemmas
 pub mod CallerLemmas
 mod GoodLemmas
 mod KeptLemmas

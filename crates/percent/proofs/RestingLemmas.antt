@@ -2,7 +2,7 @@
 use Rattle.std.proofs.Common.{◌≡◌, ℕ, zero, suc, ◌<◌, ◌≤◌, Bool, true, false, not, ◌||◌, ℤ, pos, negsuc, ◌+ℤ◌, ◌-ℤ◌, List, [], ◌∷◌, get_or, refl, sym, ap, subst, ◌∙◌, inl, inr, arith}
 use Rattle.std.specs.Prelude.{int_lt}
 use Rattle.std.specs.List.{list_all, list_any}
-use Rattle.std.proofs.lemmas.Bool.{and_cases, cases_eq, or_right, true≢false, lt-ltb}
+use Rattle.std.proofs.lemmas.Bool.{and_cases, cases_eq, or_right, true≢false, lt-ltb, not-false}
 use Rattle.std.proofs.lemmas.Int.{ints}
 use Rattle.lane_board.specs.Field.{Field}
 use Rattle.srs.specs.declared.piece.Piece.{Piece}
@@ -22,7 +22,6 @@ use Rattle.moves.specs.RestingStates.{IsResting}
 use Rattle.moves.specs.Sky.{IsClearFrom}
 use Rattle.moves.proofs.CallerLemmas.{hard_places, soft_allows, soft_places}
 use Rattle.empty_cells.proofs.CallerLemmas.{sent_from, sent_has}
-use Rattle.percent.proofs.TestLemmas.{not_false}
 
 -- ---- each row between two cells of a placement has one
 
@@ -101,7 +100,7 @@ stands F s q rests same =
           let down : (pos s.y -ℤ pos 1) +ℤ d.0.1 ≡ pos z = omega (arith, ints) in
           let near = lies.in_columns in
           let low = lies.in_rows in
-          not_false (F lies.x z) (open_at F found.0 lies.x z (sym d.2 ∙ (λ i. (column i, down i))) near (omega arith) ∙ found.2);
+          not-false (F lies.x z) (open_at F found.0 lies.x z (sym d.2 ∙ (λ i. (column i, down i))) near (omega arith) ∙ found.2);
     }
 
 pub place-stands : (table : Table) (F : Field) (mode : DropMode) (q : Placement) → IsPlace table F mode q → StandsOn F q

@@ -1,7 +1,7 @@
 -- The tilings of a position's empty cells, in rows of an earlier field.
 use Rattle.std.proofs.Common.{ℕ, ◌≡◌, ◌∙◌, ◌<◌, ◌≤◌, true, not, List, get_or, map, ap, pos, sym, subst, arith, rules}
 use Rattle.std.proofs.lemmas.List.Folds.{list_all-map}
-use Rattle.std.proofs.lemmas.Bool.{not-true, not_from_false}
+use Rattle.std.proofs.lemmas.Bool.{not-true, not_from_false, not-false}
 use Rattle.srs.proofs.CallerLemmas.{list_all-from_is_among}
 use Rattle.lane_board.specs.Field.{Field, difference}
 use Rattle.srs.specs.declared.placement.Placement.{Placement}
@@ -18,7 +18,6 @@ use Rattle.empty_cells.specs.SentCells.{sent_cells, sent_up}
 use Rattle.empty_cells.proofs.CallerLemmas.{IsSmall}
 use Rattle.tiled_pieces.specs.TilingLists.{LaidPiece, laid_part}
 use Rattle.percent.specs.Spread.{IsSpread}
-use Rattle.percent.proofs.TestLemmas.{not_false}
 use Rattle.percent.proofs.SpreadLemmas.{NearCell, near, row_of, spread-placed}
 use Rattle.tiled_pieces.proofs.CallerLemmas.{LiesIn, left_by_part}
 
@@ -30,7 +29,7 @@ sends F height rows E few spread = record {
   below = λ x y _ below _. spread.within y (omega arith);
   empty = λ x y column below empty. ap not (spread.same x y (omega arith) below ∙ ap not empty);
   before = λ x z column below empty.
-      let here : E x z ≡ true = not_false (E x z) empty in
+      let here : E x z ≡ true = not-false (E x z) empty in
       let at = row_of height rows z (spread.only x z here) in
       record { y = at.row; below = at.below; empty = not-true (F x at.row) (sym (spread.same x at.row (omega arith) at.below) ∙ ap (E x) at.sent ∙ here); sent = at.sent };
 }

@@ -1,7 +1,7 @@
 -- Positions whose rows stand in rows of an earlier field: at the start, and after one more placement.
 use Rattle.std.proofs.Common.{◌≡◌, ℕ, zero, suc, ◌==◌, int_lt, nat_le, length, length-set, ◌+◌, ◌-◌, ◌<◌, ◌≤◌, Bool, true, false, not, ◌&&◌, ◌||◌, nat_lt, List, [], ◌∷◌, get_or, pos, negsuc, nat_abs, refl, sym, ap, ap₂, subst, ◌∙◌, inl, inr, arith, rules}
 use Rattle.std.proofs.Math.Path.{fun_ext}
-use Rattle.std.proofs.lemmas.Bool.{agree_below_at, and_from, and_parts, cases_eq, cases_lt, cases_order, eq-eqb, eqb-true, false≢true, leb-true, lt-ltb, ltb-true, not-true, or_left, or_right}
+use Rattle.std.proofs.lemmas.Bool.{agree_below_at, and_from, and_parts, cases_eq, cases_lt, cases_order, eq-eqb, eqb-true, false≢true, leb-true, lt-ltb, ltb-true, not-true, or_left, or_right, not-false}
 use Rattle.std.proofs.Common.{set as list_set}
 use Rattle.std.proofs.lemmas.List.{get_or-set_other}
 use Rattle.std.proofs.lemmas.Grind.{get_or-set_at}
@@ -22,7 +22,6 @@ use Rattle.empty_cells.specs.Empties.{has_cell}
 use Rattle.empty_cells.specs.SentCells.{sent_cells, sent_up}
 use Rattle.empty_cells.proofs.CallerLemmas.{cell_of, sent_from, sent_has}
 use Rattle.std.proofs.lemmas.Bool.{or_cases}
-use Rattle.percent.proofs.TestLemmas.{not_false}
 use Rattle.percent.specs.Spread.{ComesFrom, IsSpread, KeepsRows, is_row_of}
 
 -- a row in which one of the first rows stands
@@ -315,4 +314,4 @@ pub not_full : (set : Bool) (G : Field) (y : ℕ) → set ≡ not (is_full G y) 
 not_full set G y is there = not-true (is_full G y) (sym is ∙ there)
 
 pub row_full : (set : Bool) (G : Field) (y : ℕ) → set ≡ not (is_full G y) → set ≡ false → is_full G y ≡ true
-row_full set G y is none = not_false (is_full G y) (sym is ∙ none)
+row_full set G y is none = not-false (is_full G y) (sym is ∙ none)

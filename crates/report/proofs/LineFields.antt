@@ -5,7 +5,7 @@ use Rattle.std.specs.Prelude.{replicate}
 use Rattle.std.specs.List.{list_all, AllByRecursion}
 use Rattle.std.specs.Option.{option_or}
 use Rattle.std.proofs.Math.Path.{fun_ext}
-use Rattle.std.proofs.lemmas.Bool.{eqb-true, le-ltb}
+use Rattle.std.proofs.lemmas.Bool.{eqb-true, le-ltb, not-false}
 use Rattle.std.proofs.lemmas.List.{take_at, drop_at, length-append, length-map}
 use Rattle.std.proofs.lemmas.List.Elements.{All-append, All-cons, All-nil, All-map, All-replicate}
 use Rattle.std.proofs.lemmas.List.Sums.{list_all-from_AllPass}
@@ -181,12 +181,8 @@ cells_none (cell ∷ row) zero same = absurd cc
 cells_none (cell ∷ row) (suc k) same =
     let first : not (cell == 0) ≡ false = cc in
     let rest : map (λ cell. not (cell == 0)) row ≡ replicate k false = cc in
-    let none : cell ≡ 0 = eqb-true cell 0 (false_not (cell == 0) first) in
+    let none : cell ≡ 0 = eqb-true cell 0 (not-false (cell == 0) first) in
     λ i. none i ∷ cells_none row k rest i
-  where
-    false_not : (b : Bool) → not b ≡ false → b ≡ true
-    false_not true e = refl
-    false_not false e = absurd cc
 
 rows_none : (rows : List (List ℕ)) (k : ℕ) → map row_tests rows ≡ replicate k (replicate 10 false) → rows ≡ replicate k empty_row
 rows_none [] zero same = refl

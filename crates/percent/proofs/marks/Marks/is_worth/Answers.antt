@@ -1,14 +1,13 @@
 -- It stands in no tiling of the marks that are wanted, or walls show that what it leaves has none.
 use Rattle.std.proofs.Common.{◌≡◌, ℕ, ◌==◌, true, bit_and, subst}
 use Rattle.std.specs.Prelude.{Option, IfSome}
-use Rattle.std.proofs.lemmas.Bool.{eqb-true}
+use Rattle.std.proofs.lemmas.Bool.{eqb-true, not-false}
 use Rattle.lane_board.specs.Field.{Field, difference}
 use Rattle.number_sets.specs.Rising.{has}
 use Rattle.prune.specs.Tiling.{Supply, Tiling}
 use Rattle.empty_cells.specs.Empties.{all_but, empty_cells}
 use Rattle.percent.specs.Wanted.{IsWanted}
 use Rattle.percent.proofs.MarkLemmas.{bad-wanted, walled-bad}
-use Rattle.percent.proofs.TestLemmas.{not_false}
 use Rattle.percent.proofs.marks.Marks.is_worth.Goals as goal
 
 pub returns : goal.returns
@@ -16,11 +15,11 @@ returns c = λ no game rest here.
     let marks = c.args.self.now in
     let wanted = subst (λ (o : Option ℕ). IfSome o (λ wanted. (rest : ℕ) → has c.args.asked.now.rests.items rest ≡ true → IsWanted marks.known.items c.args.placement.now.piece c.args.left rest wanted)) c.in-Some.is c.requires.wanted in
     bad-wanted game marks.position marks.known.items marks.rows marks.cells c.args.placement.now c.args.left rest c.in-Some.wanted c.args.standing marks.spread marks.are_true c.requires.free c.requires.below
-    (wanted rest here) c.requires.standing (eqb-true (bit_and c.args.standing c.in-Some.wanted) 0 (not_false (bit_and c.args.standing c.in-Some.wanted == 0) no))
+    (wanted rest here) c.requires.standing (eqb-true (bit_and c.args.standing c.in-Some.wanted) 0 (not-false (bit_and c.args.standing c.in-Some.wanted == 0) no))
 
 pub returns-in_default : goal.returns-in_default
 returns-in_default c = λ no game rest here.
     let marks = c.args.self.now in
     let q = c.args.placement.now in
     walled-bad game marks.position q c.args.left rest marks.rows (empty_cells marks.cells) marks.spread c.requires.free c.requires.below
-    (subst (λ (E : Field). (supply : Supply) → Tiling (all_but (difference (empty_cells marks.cells) E)) 8 supply → ⊥) c.requires.taken (c.leaves_uneven_part.ensures (not_false c.leaves_uneven_part.result no)))
+    (subst (λ (E : Field). (supply : Supply) → Tiling (all_but (difference (empty_cells marks.cells) E)) 8 supply → ⊥) c.requires.taken (c.leaves_uneven_part.ensures (not-false c.leaves_uneven_part.result no)))
