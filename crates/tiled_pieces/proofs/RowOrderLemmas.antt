@@ -30,9 +30,6 @@ byte_of before row r low = has_bit-and (before / 2 ^ (8 * row)) 255 r ∙ ap (λ
 pub not_none : (n : ℕ) → not (n == 0) ≡ true → n ≡ 0 → ⊥
 not_none n some none = both_ways _ (ap not (eq-eqb n 0 none)) some
 
-pub kept_there : (b : Bool) → not b ≡ false → b ≡ true
-kept_there b e = search rules
-
 -- the rows that go after some, as far as they have been gone through
 pub record LaterSoFar (before rows rest later : ℕ) : Type 0 where
   pub left : (k : ℕ) → k < 8 → has_bit rest k ≡ true → has_bit rows k ≡ true
