@@ -20,8 +20,8 @@ fn digit(number: i8) -> u8
     b'0' + number.unsigned_abs()
 }
 
-/// A number from -9 to 9.
-fn push_number(text: &mut Vec<u8>, number: i8) -> Result<(), NoMemory>
+/// Appends a number from -9 to 9.
+fn push_signed_digit(text: &mut Vec<u8>, number: i8) -> Result<(), NoMemory>
     requires { IsTrue (is_one_digit number) }
     ensures ok { OnOk result (text.new.items ≡ text.old.items ++ signed_digit number) }
     ensures err { OnErr result (text.new.items ≡ text.old.items) }
@@ -41,9 +41,9 @@ fn push_offset(text: &mut Vec<u8>, offset: Offset) -> Result<(), NoMemory>
     ensures ok { OnOk result (text.new.items ≡ text.old.items ++ offset_form (pair_of offset)) }
     ensures kept { take (length text.old.items) text.new.items ≡ text.old.items }
 {
-    push_number(text, offset.dx)?;
+    push_signed_digit(text, offset.dx)?;
     text.push(b',')?;
-    push_number(text, offset.dy)
+    push_signed_digit(text, offset.dy)
 }
 
 /// Appends offsets or kicks, separated by `/`. Each is at most nine columns and nine rows. After NoMemory `text` is

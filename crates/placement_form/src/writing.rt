@@ -13,7 +13,7 @@ use srs::Placement;
 pub type PlacementText = ArrayVec<u8, 10>;
 
 /// Appends the digits of a number. Nearly all columns and rows have one digit, which is written without a buffer.
-fn push_number(text: &mut PlacementText, number: u8)
+fn push_decimal(text: &mut PlacementText, number: u8)
     requires { array_vec_len text.old ≤ 7 }
     ensures items { text.new.items ≡ text.old.items ++ decimal number }
     ensures len { array_vec_len text.new ≤ array_vec_len text.old + 3 }
@@ -47,8 +47,8 @@ pub fn placement_text(placement: &Placement) -> PlacementText
     ensures len { array_vec_len result ≤ 10 }
 {
     let mut text = letters(placement);
-    push_number(&mut text, placement.x);
+    push_decimal(&mut text, placement.x);
     text.push(b',');
-    push_number(&mut text, placement.y);
+    push_decimal(&mut text, placement.y);
     text
 }

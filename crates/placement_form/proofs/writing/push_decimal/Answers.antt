@@ -1,7 +1,7 @@
 -- A number below ten has one digit.
 use Rattle.std.proofs.Common.{◌++◌, ap, sym, ◌∙◌}
 use Rattle.std.proofs.lemmas.Fmt.{decimal_digit}
-use Rattle.placement_form.proofs.writing.push_number.Goals as goal
+use Rattle.placement_form.proofs.writing.push_decimal.Goals as goal
 
 pub returns-then-number-lt10-clause-items : goal.returns-then-number-lt10-clause-items
 returns-then-number-lt10-clause-items c =
