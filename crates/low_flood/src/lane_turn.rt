@@ -26,37 +26,15 @@ pub(crate) fn arrivals<const KIND: u8, const TO: u8, const CLOCKWISE: bool, cons
     ensures { field_of result ≡ arrivals piece from to N (field_of free.now) (field_of places.now) empty_field }
 {
     let inside = inside_lanes(piece, canonical_of(piece, to));
-    let none = LaneBoard::empty();
-    let one = tested(free, &inside, lane_kick(piece, from, to, 1), places, &none);
-    let two = tested(
-        free,
-        &inside,
-        lane_kick(piece, from, to, 2),
-        &one.left,
-        &one.reached,
-    );
-    let three = tested(
-        free,
-        &inside,
-        lane_kick(piece, from, to, 3),
-        &two.left,
-        &two.reached,
-    );
-    let four = tested(
-        free,
-        &inside,
-        lane_kick(piece, from, to, 4),
-        &three.left,
-        &three.reached,
-    );
-    tested(
-        free,
-        &inside,
-        lane_kick(piece, from, to, 5),
-        &four.left,
-        &four.reached,
-    )
-    .reached
+    let start = Turning {
+        left: *places,
+        reached: LaneBoard::empty(),
+    };
+    let one = tested(free, &inside, lane_kick(piece, from, to, 1), &start);
+    let two = tested(free, &inside, lane_kick(piece, from, to, 2), &one);
+    let three = tested(free, &inside, lane_kick(piece, from, to, 3), &two);
+    let four = tested(free, &inside, lane_kick(piece, from, to, 4), &three);
+    tested(free, &inside, lane_kick(piece, from, to, 5), &four).reached
 }
 
 /// The places that a test leaves to the next test, and the places that are reached.
@@ -72,25 +50,23 @@ fn tested<const N: usize>(
     free: &LaneBoard<N>,
     inside: &LaneBoard<N>,
     change: (i8, i8),
-    places: &LaneBoard<N>,
-    reached: &LaneBoard<N>,
+    before: &Turning<N>,
 ) -> Turning<N>
     requires left { minus 5 ≤ℤ change.0 }
     requires right { change.0 ≤ℤ pos 5 }
     requires down { minus 6 ≤ℤ change.1 }
     requires up { change.1 ≤ℤ pos 6 }
-    ensures left { field_of result.left ≡ difference (field_of places.now)
+    ensures left { field_of result.left ≡ difference (field_of before.now.left)
         (opening N (field_of free.now) (field_of inside.now) change) }
     ensures reached { field_of result.reached
-        ≡ union (field_of reached.now) (moved_within
-        (intersection (field_of places.now) (opening N (field_of free.now) (field_of inside.now) change)) N change.0
-        change.1) }
+        ≡ union (field_of before.now.reached) (moved_within (intersection (field_of before.now.left)
+        (opening N (field_of free.now) (field_of inside.now) change)) N change.0 change.1) }
 {
     let back = opening(free, inside, change);
-    let hits = places.and(&back);
+    let hits = before.left.and(&back);
     Turning {
-        left: places.minus(&back),
-        reached: reached.or(&hits.moved(change.0, change.1)),
+        left: before.left.minus(&back),
+        reached: before.reached.or(&hits.moved(change.0, change.1)),
     }
 }
 
