@@ -1,7 +1,7 @@
 -- What a reader must believe
 pub mod Covered
 pub mod Kept
--- What contracts cite beside these: views of values, and readings and tests, each with its law
+-- What the invariants of types cite: what their private fields hold and stand for
 pub mod Lists
 pub mod Nodes
 pub mod Tree

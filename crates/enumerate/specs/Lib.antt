@@ -4,7 +4,7 @@ pub mod Work
 pub mod Counted
 pub mod Items
 pub mod ViewOf
--- What contracts cite beside these: views of values, and readings and tests, each with its law
+-- What the invariants of types cite: what their private fields hold and stand for
 pub mod Events
 pub mod Frames
 pub mod Rest

@@ -4,6 +4,6 @@ pub mod QueueSet
 pub mod Supply
 pub mod AtHand
 pub mod Hand
--- What contracts cite beside these: views of values, and readings and tests, each with its law
+-- What the invariants of types cite: what their private fields hold and stand for
 pub mod States
 pub mod Family

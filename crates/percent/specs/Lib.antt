@@ -1,11 +1,11 @@
 -- What a reader must believe
 pub mod Good
 pub mod Answers
--- What contracts cite beside these: views of values, and readings and tests, each with its law
-pub mod GoodHands
 pub mod OpenRows
 pub mod Fitting
 pub mod BuiltHands
+-- What contracts cite beside these: views of values, and readings and tests, each with its law
+pub mod GoodHands
 -- What serves proofs alone
 pub mod Weights
 pub mod Kept

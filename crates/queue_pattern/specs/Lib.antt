@@ -6,7 +6,7 @@ pub mod Grammar
 pub mod Form
 pub mod Faults
 pub mod Pattern
--- What contracts cite beside these: views of values, and readings and tests, each with its law
+-- What the invariants of types cite: what their private fields hold and stand for
 pub mod Sound
 -- What serves proofs alone
 pub mod Builder

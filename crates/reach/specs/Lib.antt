@@ -1,4 +1,4 @@
 -- What a reader must believe: by which table of offsets a flood goes.
 pub mod FloodRules
--- What contracts cite beside these: views of values, and readings and tests, each with its law
+-- What the invariants of types cite: what their private fields hold and stand for
 pub mod SameOffsets

@@ -4,9 +4,8 @@ pub mod Standing
 pub mod Built
 pub mod Served
 pub mod RowOrders
--- What contracts cite beside these: views of values, and tests
+-- What serves proofs alone
 pub mod Words
 pub mod Orders
 pub mod RowBits
--- What serves proofs alone
 pub mod Listings
