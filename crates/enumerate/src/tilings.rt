@@ -24,9 +24,6 @@ use srs::{Piece, Placement};
 use std::alloc::Global;
 use well::Well;
 
-/// How many questions with their answers a search keeps.
-const DECIDED: usize = 16384;
-
 /// How many questions without a tiling a search keeps.
 const DEAD: usize = 65_536;
 
@@ -66,7 +63,7 @@ impl Tilings {
     pub fn new(alloc: Global) -> Result<Tilings, NoMemory>
         ensures { IfOk result (λ tilings. kept tilings.dead ≡ []) }
     {
-        let decided = TilingStore::with_room(alloc, DECIDED)?;
+        let decided = TilingStore::new(alloc)?;
         let left = PlaceMemory::new(alloc)?;
         let dead = DeadMemo::new(alloc, DEAD)?;
         Ok(Tilings {

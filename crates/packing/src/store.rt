@@ -11,8 +11,8 @@ use fact_table::FactTable;
 use pc_outside::NoMemory;
 use std::alloc::Global;
 
-/// How many questions a store keeps, if its size is not given.
-const ROOM: usize = 32768;
+/// How many questions a store keeps.
+const ROOM: usize = 16_384;
 
 /// Keeps the answers to questions that it was asked, each in one slot. A later one evicts an earlier one.
 #[derive(Drop)]
@@ -23,7 +23,8 @@ pub struct TilingStore {
 impl TilingStore {
     /// An empty store. `NoMemory` if there is not enough memory.
     pub fn new(alloc: Global) -> Result<TilingStore, NoMemory> {
-        TilingStore::with_room(alloc, ROOM)
+        let decided = FactTable::new(alloc, ROOM)?;
+        Ok(TilingStore { decided })
     }
 
     /// The same, but a store that keeps nothing if there is not enough memory.
@@ -31,12 +32,6 @@ impl TilingStore {
         TilingStore {
             decided: FactTable::within_memory(alloc, ROOM),
         }
-    }
-
-    /// An empty store that keeps this many questions, best a power of two. `NoMemory` if there is not enough memory.
-    pub fn with_room(alloc: Global, room: usize) -> Result<TilingStore, NoMemory> {
-        let decided = FactTable::new(alloc, room)?;
-        Ok(TilingStore { decided })
     }
 
     /// Whether the cells are the disjoint union of generalized pieces, with at most as many of each kind as the supply
