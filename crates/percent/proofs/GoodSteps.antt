@@ -1,11 +1,11 @@
 -- The steps of looking into hands, as facts about what lists have.
-use Rattle.std.proofs.Common.{ℕ, suc, ◌≡◌, ◌+◌, ◌*◌, ◌/◌, ◌%◌, ◌<◌, ◌≤◌, Bool, true, false, not, ◌&&◌, ◌||◌, ◌==◌, List, [], length, get_or, take, ap, subst, ◌∙◌, sym, arith, rules}
+use Rattle.std.proofs.Common.{ℕ, suc, ◌≡◌, ◌+◌, ◌*◌, ◌/◌, ◌%◌, ◌<◌, ◌≤◌, Bool, true, false, not, ◌&&◌, ◌||◌, ◌==◌, List, [], length, get_or, take, drop, ap, subst, ◌∙◌, sym, inl, inr, arith, rules}
 use Rattle.std.specs.List.{list_any}
 use Rattle.std.specs.Prelude.{IsPermutation}
 use Rattle.std.proofs.lemmas.List.Sorted.{list_any-IsPermutation}
-use Rattle.std.proofs.lemmas.List.{take_all}
-use Rattle.std.proofs.lemmas.List.Folds.{list_any_more}
-use Rattle.std.proofs.lemmas.Bool.{eqb-true, or_left}
+use Rattle.std.proofs.lemmas.List.{take_all, take-append-drop}
+use Rattle.std.proofs.lemmas.List.Folds.{list_any-append, list_any_more}
+use Rattle.std.proofs.lemmas.Bool.{and_from, cases_Bool, eqb-true, not-false, or_left}
 use Rattle.lane_board.specs.Field.{Field}
 use Rattle.srs.specs.declared.piece.Piece.{Piece}
 use Rattle.srs.specs.Piece.{all_pieces, piece_code}
@@ -200,6 +200,27 @@ pub try-ends : (game now : Game) (F : Field) (rows : ℕ) (piece : Piece) (left 
     → (rest : ℕ) → has found rest ≡ (has rests rest && is_good_after game F rows piece left rest)
 try-ends game now F rows piece left children rests asked found before after i state all children_are found_is rest =
     search (rules, taken_back, and_same, take_all)
+
+-- what is good at one of the first children is good at one of all
+good_before : (game : Game) (left rest i : ℕ) (children : List Child) → is_good_at game (take i children) left rest ≡ true → is_good_at game children left rest ≡ true
+unfolding is_good_at
+good_before game left rest i children good =
+    let test : Child → Bool = λ child. is_good game (filled child.position.well) child.position.rows left rest in
+    sym (ap (list_any test) (take-append-drop i children)) ∙ list_any-append test (take i children) (drop i children) ∙ or_left _ _ good
+
+-- where none is asked about any more, all are good
+pub try-all : (game now : Game) (F : Field) (rows : ℕ) (piece : Piece) (left : ℕ) (children : List Child) (rests asked : List ℕ) (before after i : ℕ)
+    → Trying game now left children rests asked before after i → asked ≡ []
+    → ((rest : ℕ) → has rests rest ≡ true → is_good_at game children left rest ≡ is_good_after game F rows piece left rest)
+    → (rest : ℕ) → has rests rest ≡ (has rests rest && is_good_after game F rows piece left rest)
+try-all game now F rows piece left children rests asked before after i state none children_are rest =
+    elim (cases_Bool (has rests rest)) [
+      | inl there ↦
+          let open_now : (has rests rest && not (is_good_at game (take i children) left rest)) ≡ false = sym (state.members rest) ∙ ap (λ l. has l rest) none ∙ has-none rest in
+          let found : is_good_at game (take i children) left rest ≡ true = not-false _ (sym (ap (λ b. b && not (is_good_at game (take i children) left rest)) there) ∙ open_now) in
+          there ∙ sym (and_from _ _ there (sym (children_are rest there) ∙ good_before game left rest i children found))
+      | inr apart ↦ apart ∙ sym (ap (λ b. b && is_good_after game F rows piece left rest) apart)
+    ]
 
 -- ---- the whole answer
 

@@ -195,7 +195,8 @@ fn explored<L: Ledger>(
     Ok((good, bad))
 }
 
-/// The rests that are good after one of the places of a piece, at the position of the marks.
+/// The rests that are good after one of the places of a piece, at the position of the marks. Once all are, no further
+/// place is tried.
 #[cycle(search)]
 fn tried<L: Ledger>(
     alloc: Global,
@@ -222,6 +223,9 @@ fn tried<L: Ledger>(
     let mut asked = marks.asked(alloc, piece, left, all)?;
     let children = marks.children(alloc, kept, piece, left, &asked, steps)?;
     for child in &children {
+        if asked.rests.is_empty() {
+            return Ok(Vec::from_slice(alloc, rests)?);
+        }
         let fit = fitting_after(alloc, &mut kept.fits, marks, child, left, &asked)?;
         let good = answered(alloc, kept, marks, child, left, fit.as_slice(), steps)?;
         asked = less(alloc, marks, piece, left, asked, good.as_slice())?;

@@ -15,7 +15,7 @@ use Rattle.percent.specs.Children.{IsChild}
 use Rattle.percent.specs.Marks.{AreIndexes, IsStanding}
 use Rattle.percent.specs.GoodHands.{is_good, is_good_after, is_good_at}
 use Rattle.std.proofs.lemmas.Result.{IfOk-weaker}
-use Rattle.percent.proofs.GoodSteps.{good-ends, answer-kept, answer-known, answers-at, explore-open, explore-step, found-good, open-bad, try-ends, try-step, try-starts}
+use Rattle.percent.proofs.GoodSteps.{good-ends, answer-kept, answer-known, answers-at, explore-open, explore-step, found-good, open-bad, try-all, try-ends, try-step, try-starts}
 use Rattle.percent.proofs.answered.+search.Goals as goal
 
 -- what holds of a value that may be there holds of the one that is
@@ -165,6 +165,19 @@ tried-loop-child-preserved g t c = (
       c.in_ok-asked-2.ensures.rises refl c.as_slice-in-loop-child.ensures.value c.in_ok-asked-2.ensures.members,
   c.in_ok-asked-2.ensures.indexes,
 )
+
+pub tried-returns-then-is_empty-2-clause-members : goal.tried-returns-then-is_empty-2-clause-members
+tried-returns-then-is_empty-2-clause-members g t c = λ rest.
+    let p = c.args.marks.now.position in
+    let all = c.in_ok-asked.ensures.rests ∙ c.in_ok-all.ensures.items in
+    let none : (vec_len c.loop-child.asked.rests == 0) ≡ true = sym c.is_empty-in-loop-child.ensures ∙ c.if-is_empty-2.true in
+    let short : length c.loop-child.asked.rests.items ≡ 0 = grind (arith, nat_tests) in
+    ap (λ l. has l rest) c.in_ok-from_slice.ensures.items
+    ∙ try-all c.args.kept.now.game c.loop-child.kept.game (filled p.well) p.rows c.args.piece c.args.left c.deref-child-items.result.now c.args.rests.now c.loop-child.asked.rests.items
+    c.args.steps.now c.loop-child.steps c.loop-child.child-index c.loop-child.invariant.0 (nil_from_length c.loop-child.asked.rests.items short)
+    (subst (λ l. (rest : ℕ) → has c.args.rests.now rest ≡ true → is_good_at c.args.kept.now.game l c.args.left rest ≡ is_good_after c.args.kept.now.game (filled p.well) p.rows c.args.piece c.args.left rest) (sym c.deref-child-items.ensures.value)
+    (subst (λ l. (rest : ℕ) → has l rest ≡ true → is_good_at c.args.kept.now.game c.in_ok-children.children.items c.args.left rest ≡ is_good_after c.args.kept.now.game (filled p.well) p.rows c.args.piece c.args.left rest) all c.in_ok-children.ensures.good))
+    rest
 
 pub tried-returns-clause-members : goal.tried-returns-clause-members
 tried-returns-clause-members g t c =
