@@ -9,7 +9,6 @@ use Rattle.srs.proofs.CallerLemmas.{piece_code-injective, piece_code-small, piec
 use Rattle.hold_queue.specs.declared.hold.Hold.{Hold}
 use Rattle.hold_queue.specs.declared.hold.Hold.TheVariants.{Allowed, Avoided}
 use Rattle.hold_queue.specs.AtHand.{Take, take_first, take_second}
-use Rattle.number_sets.specs.Rising.{has}
 use Rattle.hands.specs.Hands.{number_of, allows_hold, takes, without_first, without_second}
 
 first-code : (piece : Piece) (rest : List Piece) → number_of (piece ∷ rest) % 8 ≡ piece_code piece
@@ -86,6 +85,6 @@ untaken : (w a b c : Bool) → w ≡ (w && not ((a && false) || (b && (c && fals
 untaken w a b c = rw (and-false a, and-false c, and-false b) (sym (and-true w))
 
 -- where nothing may be left nothing is taken
-pub takes-none : (hold : Hold) (code : ℕ) (hands rests : List ℕ) (hand : ℕ) → rests ≡ [] → has hands hand ≡ (has hands hand && not (takes hold code (has rests) hand))
-unfolding takes has
-takes-none hold code hands rests hand nil = search (rules, untaken)
+pub takes-none : (hold : Hold) (code : ℕ) (there : Bool) (goes_on : ℕ → Bool) (hand : ℕ) → ((rest : ℕ) → goes_on rest ≡ false) → there ≡ (there && not (takes hold code goes_on hand))
+unfolding takes
+takes-none hold code there goes_on hand none = search (rules, untaken)

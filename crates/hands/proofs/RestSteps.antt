@@ -2,8 +2,8 @@
 use Rattle.std.proofs.Common.{ℕ, ◌≡◌, ◌+◌, ◌*◌, ◌/◌, ◌%◌, ◌<◌, ◌≤◌, Bool, true, false, ◌&&◌, ◌||◌, ◌==◌, List, [], ◌∷◌, ◌++◌, length, get_or, take, ap, ◌∙◌, sym, arith, inl, inr, rules}
 use Rattle.std.proofs.lemmas.Bool.{cases_lt}
 use Rattle.std.proofs.lemmas.Bool.Decides.{nat_tests}
-use Rattle.number_sets.specs.Rising.{IsRising, AllBelow, has}
-use Rattle.number_sets.proofs.CallerLemmas.{has-absent, has-none, has-push, has-more, has-all, rising-none, rising-push, below-push, below-more}
+use Rattle.hands.specs.Rising.{IsRising, AllBelow, has_number}
+use Rattle.hands.proofs.HasLemmas.{has-absent, has-none, has-push, has-more, has-all, rising-none, rising-push, below-push, below-more}
 use Rattle.hands.specs.Hands.{with_first, with_second}
 
 -- putting a piece back keeps the order of what was left
@@ -40,7 +40,7 @@ with_second-keeps code = record { up = λ r s less. omega arith }
 -- v has what is left of the first i hands
 pub record Resting (back : ℕ → ℕ) (hands v : List ℕ) (i : ℕ) : Type 0 where
   pub rises : IsRising v
-  pub members : (rest : ℕ) → has v rest ≡ has (take i hands) (back rest)
+  pub members : (rest : ℕ) → has_number v rest ≡ has_number (take i hands) (back rest)
   pub below : i < length hands → (k : ℕ) → k < length v → back (get_or v k 0) < get_or hands i 0
 
 pub rest-starts : (back : ℕ → ℕ) (hands : List ℕ) → Resting back hands [] 0
@@ -59,7 +59,7 @@ rest-push back hands v i rest keeps up state in_hands whole =
     let above : AllBelow v rest = λ k low. let old = state.below in_hands k low in down back keeps (get_or v k 0) rest (omega arith) in record {
       rises = rising-push v rest state.rises above;
       members = λ other. has-push v rest other ∙ ap (λ b. b || rest == other) (state.members other)
-          ∙ ap (λ b. has (take i hands) (back other) || b) (same_tests rest other (get_or hands i 0) (back other) (λ same. sym whole ∙ ap back same) (λ same. one back keeps rest other (whole ∙ same)))
+          ∙ ap (λ b. has_number (take i hands) (back other) || b) (same_tests rest other (get_or hands i 0) (back other) (λ same. sym whole ∙ ap back same) (λ same. one back keeps rest other (whole ∙ same)))
           ∙ sym (has-more hands i (back other) in_hands);
       below = λ more k low.
           let next = up i (i + 1) (omega arith) more in
@@ -78,7 +78,7 @@ pub rest-pass : (back : ℕ → ℕ) (hands v : List ℕ) (i : ℕ) → IsRising
     → Resting back hands v (i + 1)
 rest-pass back hands v i up state in_hands other = search (rules, or_false, nat_tests, has-more)
 
-pub rest-members : (back : ℕ → ℕ) (hands v : List ℕ) (i : ℕ) → length hands ≤ i → Resting back hands v i → (rest : ℕ) → has v rest ≡ has hands (back rest)
+pub rest-members : (back : ℕ → ℕ) (hands v : List ℕ) (i : ℕ) → length hands ≤ i → Resting back hands v i → (rest : ℕ) → has_number v rest ≡ has_number hands (back rest)
 rest-members back hands v i all state rest = state.members rest ∙ has-all hands i (back rest) all
 
 pub first_back : (code hand : ℕ) → hand % 8 ≡ code → with_first code (hand / 8) ≡ hand
@@ -98,13 +98,13 @@ unfolding with_second
 second_other code hand few other rest same = other (omega arith)
 
 -- where no hand comes from a rest, nothing is left of them
-pub none-left : (back : ℕ → ℕ) (hands v : List ℕ) → v ≡ [] → ((k : ℕ) → k < length hands → (rest : ℕ) → get_or hands k 0 ≡ back rest → ⊥) → (rest : ℕ) → has v rest ≡ has hands (back rest)
-none-left back hands v none other rest = ap (λ l. has l rest) none ∙ has-none rest ∙ sym (has-absent hands (back rest) (λ k low. other k low rest))
+pub none-left : (back : ℕ → ℕ) (hands : List ℕ) → ((k : ℕ) → k < length hands → (rest : ℕ) → get_or hands k 0 ≡ back rest → ⊥) → (rest : ℕ) → false ≡ has_number hands (back rest)
+none-left back hands other rest = sym (has-absent hands (back rest) (λ k low. other k low rest))
 
 -- those of the first i hands that pass a test
 pub record Keeping (test : ℕ → Bool) (hands v : List ℕ) (i : ℕ) : Type 0 where
   pub rises : IsRising v
-  pub members : (hand : ℕ) → has v hand ≡ (has (take i hands) hand && test hand)
+  pub members : (hand : ℕ) → has_number v hand ≡ (has_number (take i hands) hand && test hand)
   pub below : i < length hands → AllBelow v (get_or hands i 0)
 
 pub keep-starts : (test : ℕ → Bool) (hands : List ℕ) → Keeping test hands [] 0
@@ -125,7 +125,7 @@ pub keep-push : (test : ℕ → Bool) (hands v : List ℕ) (i : ℕ) → IsRisin
 keep-push test hands v i up state in_hands passes = record {
   rises = rising-push v (get_or hands i 0) state.rises (state.below in_hands);
   members = λ hand. has-push v (get_or hands i 0) hand ∙ ap (λ b. b || get_or hands i 0 == hand) (state.members hand)
-      ∙ kept_one (has (take i hands) hand) (test hand) (get_or hands i 0 == hand) (λ same. let is : get_or hands i 0 ≡ hand = grind (arith, nat_tests) in ap test (sym is) ∙ passes)
+      ∙ kept_one (has_number (take i hands) hand) (test hand) (get_or hands i 0 == hand) (λ same. let is : get_or hands i 0 ≡ hand = grind (arith, nat_tests) in ap test (sym is) ∙ passes)
       ∙ ap (λ b. b && test hand) (sym (has-more hands i hand in_hands));
   below = λ more. let next = up i (i + 1) (omega arith) more in
       below-push v (get_or hands i 0) (get_or hands (i + 1) 0) (below-more v (get_or hands i 0) (get_or hands (i + 1) 0) (state.below in_hands) (omega arith)) next;
@@ -136,11 +136,11 @@ pub keep-pass : (test : ℕ → Bool) (hands v : List ℕ) (i : ℕ) → IsRisin
 keep-pass test hands v i up state in_hands fails = record {
   rises = state.rises;
   members = λ hand. state.members hand
-      ∙ left_out (has (take i hands) hand) (test hand) (get_or hands i 0 == hand) (λ same. let is : get_or hands i 0 ≡ hand = grind (arith, nat_tests) in ap test (sym is) ∙ fails)
+      ∙ left_out (has_number (take i hands) hand) (test hand) (get_or hands i 0 == hand) (λ same. let is : get_or hands i 0 ≡ hand = grind (arith, nat_tests) in ap test (sym is) ∙ fails)
       ∙ ap (λ b. b && test hand) (sym (has-more hands i hand in_hands));
   below = λ more. let next = up i (i + 1) (omega arith) more in
       below-more v (get_or hands i 0) (get_or hands (i + 1) 0) (state.below in_hands) (omega arith);
 }
 
-pub keep-members : (test : ℕ → Bool) (hands v : List ℕ) (i : ℕ) → length hands ≤ i → Keeping test hands v i → (hand : ℕ) → has v hand ≡ (has hands hand && test hand)
+pub keep-members : (test : ℕ → Bool) (hands v : List ℕ) (i : ℕ) → length hands ≤ i → Keeping test hands v i → (hand : ℕ) → has_number v hand ≡ (has_number hands hand && test hand)
 keep-members test hands v i all state hand = state.members hand ∙ ap (λ b. b && test hand) (has-all hands i hand all)

@@ -2,6 +2,7 @@
 ghost use Rattle.std.specs.Prelude.{IsPermutation};
 ghost use Rattle.srs.specs.Piece.{all_pieces};
 
+use crate::hand_set::HandSet;
 use hold_queue::Hold;
 use srs::Piece;
 use std::cmp::Reverse;
@@ -25,12 +26,14 @@ fn count_of(wanted: &[u32; 8], piece: Piece) -> u32 {
     wanted[usize::from(piece.code())]
 }
 
-/// All kinds, those that most hands want first.
-pub fn wanted_first(hold: Hold, hands: &[u64]) -> [Piece; 7]
-    ensures { IsPermutation all_pieces result }
-{
-    let wanted = wanted_counts(hold, hands);
-    let mut kinds = Piece::ALL;
-    kinds.sort_unstable_by_key(|piece| Reverse(count_of(&wanted, *piece)));
-    kinds
+impl HandSet {
+    /// All kinds, those that most hands want first.
+    pub fn wanted_first(&self, hold: Hold) -> [Piece; 7]
+        ensures { IsPermutation all_pieces result }
+    {
+        let wanted = wanted_counts(hold, self.numbers());
+        let mut kinds = Piece::ALL;
+        kinds.sort_unstable_by_key(|piece| Reverse(count_of(&wanted, *piece)));
+        kinds
+    }
 }

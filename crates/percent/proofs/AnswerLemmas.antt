@@ -1,7 +1,7 @@
 -- The hands of all queues, and how many of them are good.
-use Rattle.std.proofs.Common.{ℕ, ◌≡◌, ◌+◌, ◌%◌, ◌<◌, ◌≤◌, ◌↔◌, IsTrue, Bool, true, false, ◌&&◌, List, [], ◌∷◌, ◌++◌, length, length-append, get_or, take, ◌-◌, refl, ap, subst, ◌∙◌, sym, arith, inl, inr, rules}
+use Rattle.std.proofs.Common.{ℕ, ◌≡◌, ◌+◌, ◌%◌, ◌<◌, ◌≤◌, ◌↔◌, IsTrue, Bool, true, false, ◌&&◌, ◌||◌, ◌==◌, List, [], ◌∷◌, ◌++◌, length, length-append, get_or, take, ◌-◌, refl, ap, subst, ◌∙◌, sym, arith, inl, inr, rules}
 use Rattle.std.specs.Prelude.{Some, slice_get, count_by}
-use Rattle.std.proofs.lemmas.Bool.{cases_lt, or_left, or_right, and_right}
+use Rattle.std.proofs.lemmas.Bool.{cases_lt, eq-eqb, or_left, or_right, and_right}
 use Rattle.std.proofs.lemmas.Bool.Decides.{nat_tests}
 use Rattle.std.proofs.lemmas.List.{take_all, length-take, get_or_append_left, get_or-append_right}
 use Rattle.std.proofs.lemmas.List.Sums.{count_by_more_no, count_by_more_yes, count_by-le-length}
@@ -12,8 +12,10 @@ use Rattle.well.specs.Well.{filled}
 use Rattle.srs.proofs.CallerLemmas.{and_first}
 use Rattle.queue_pattern.specs.Pattern.{elements_of}
 use Rattle.queue_pattern.specs.Queues.{queues}
-use Rattle.number_sets.specs.Rising.{IsRising, has}
-use Rattle.number_sets.proofs.CallerLemmas.{has-none, has-push, has-there, whole-list}
+use Rattle.hands.specs.declared.hand_set.HandSet.{HandSet}
+use Rattle.hands.specs.HandSets.{has, in_order}
+use Rattle.hands.specs.Rising.{has_number}
+use Rattle.hands.proofs.CallerLemmas.{has-push, has-whole}
 use Rattle.problem.specs.declared.problem.Problem.{Problem}
 use Rattle.problem.specs.Problem.{IsFit, empties_of, needed_of}
 use Rattle.hands.specs.Hands.{hand_of}
@@ -26,17 +28,17 @@ pub hand-read : (problem : Problem) (number : ℕ) (queue : List Piece) → slic
 unfolding hand_at
 hand-read problem number queue read = search (rules, get_or_from_slice_get)
 
-pub hands-none : (problem : Problem) (hands : List ℕ) → HasHandsBefore problem hands 0
-hands-none problem hands = record { each = λ k below. absurd (omega arith) }
+pub hands-none : (problem : Problem) (has_hand : ℕ → Bool) → HasHandsBefore problem has_hand 0
+hands-none problem has_hand = record { each = λ k below. absurd (omega arith) }
 
-pub hands-more : (problem : Problem) (hands : List ℕ) (number hand : ℕ) → hand ≡ hand_at problem number → HasHandsBefore problem hands number → HasHandsBefore problem (hands ++ hand ∷ []) (number + 1)
+pub hands-more : (problem : Problem) (hands : List ℕ) (number hand : ℕ) → hand ≡ hand_at problem number → HasHandsBefore problem (has_number hands) number → HasHandsBefore problem (has_number (hands ++ hand ∷ [])) (number + 1)
 hands-more problem hands number hand is state = search (rules, has-push, cases_lt, or_left, nat_tests, or_right)
 
-pub hands-same : (problem : Problem) (hands others : List ℕ) (number : ℕ) → ((hand : ℕ) → has others hand ≡ has hands hand) → HasHandsBefore problem hands number → HasHandsBefore problem others number
-hands-same problem hands others number same state = record { each = λ k below. same (hand_at problem k) ∙ state.each k below }
+pub hands-same : (problem : Problem) (has_hand has_other : ℕ → Bool) (number : ℕ) → ((hand : ℕ) → has_other hand ≡ has_hand hand) → HasHandsBefore problem has_hand number → HasHandsBefore problem has_other number
+hands-same problem has_hand has_other number same state = record { each = λ k below. same (hand_at problem k) ∙ state.each k below }
 
 -- the good ones of all hands are those of good queues
-pub good-hands : (problem : Problem) (hands good : List ℕ) → HasHandsBefore problem hands (length (queues (elements_of problem.pattern)))
+pub good-hands : (problem : Problem) (hands good : HandSet) → HasHandsBefore problem (has hands) (length (queues (elements_of problem.pattern)))
     → ((hand : ℕ) → has good hand ≡ (has hands hand && is_good (game_of problem) (filled problem.well) problem.height (needed_of problem) hand))
     → HasGoodHands problem good
 unfolding hand_at is_good_queue
@@ -66,14 +68,19 @@ count-ends problem number count all state = state.is ∙ ap (count_by (is_good_q
 decided : (problem : Problem) (queue : List Piece) (result : Bool) → IsFit problem → result ≡ is_good_queue problem queue → IsTrue result ↔ Good problem queue
 decided problem queue result fit is = subst (λ b. IsTrue b ↔ Good problem queue) (sym is) (good-decides problem queue fit)
 
+-- a hand that was put into a set is in it
+pub one-hand : (before hands : HandSet) (hand : ℕ) → ((other : ℕ) → has hands other ≡ (has before other || hand == other)) → has hands hand ≡ true
+one-hand before hands hand inserted = inserted hand ∙ or_right (has before hand) (hand == hand) (eq-eqb hand hand refl)
+
 -- the answer for one hand alone is that for its queue
-pub one-answer : (problem : Problem) (queue : List Piece) (hand : ℕ) (good : List ℕ) (result : Bool) → IsFit problem → hand ≡ hand_of problem.hold problem.held (needed_of problem) queue
-    → ((other : ℕ) → has good other ≡ (has (hand ∷ []) other && is_good (game_of problem) (filled problem.well) problem.height (needed_of problem) other))
+pub one-answer : (problem : Problem) (queue : List Piece) (hand : ℕ) (hands good : HandSet) (result : Bool) → IsFit problem → hand ≡ hand_of problem.hold problem.held (needed_of problem) queue
+    → has hands hand ≡ true
+    → ((other : ℕ) → has good other ≡ (has hands other && is_good (game_of problem) (filled problem.well) problem.height (needed_of problem) other))
     → result ≡ has good hand → IsTrue result ↔ Good problem queue
 unfolding is_good_queue
-one-answer problem queue hand good result fit hand_is good_is result_is =
+one-answer problem queue hand hands good result fit hand_is there good_is result_is =
     decided problem queue result fit
-    (result_is ∙ good_is hand ∙ ap (λ b. b && is_good (game_of problem) (filled problem.well) problem.height (needed_of problem) hand) (has-there (hand ∷ []) 0 hand (omega arith) refl)
+    (result_is ∙ good_is hand ∙ ap (λ b. b && is_good (game_of problem) (filled problem.well) problem.height (needed_of problem) hand) there
     ∙ ap (is_good (game_of problem) (filled problem.well) problem.height (needed_of problem)) hand_is)
 
 -- the answer for a numbered queue
@@ -87,7 +94,7 @@ pub judge-starts : (problem : Problem) (answers : List Bool) → answers ≡ [] 
 judge-starts problem answers nil = record { size = ap length nil; each = λ number within. absurd (omega arith) }
 
 -- whether one queue more is good, by its hand
-pub judge-more : (problem : Problem) (good : List ℕ) (answers : List Bool) (number hand : ℕ) (answer : Bool) → HasGoodHands problem good → number < length (queues (elements_of problem.pattern))
+pub judge-more : (problem : Problem) (good : HandSet) (answers : List Bool) (number hand : ℕ) (answer : Bool) → HasGoodHands problem good → number < length (queues (elements_of problem.pattern))
     → hand ≡ hand_at problem number → answer ≡ has good hand → AreAnswers problem answers number → AreAnswers problem (answers ++ answer ∷ []) (number + 1)
 judge-more problem good answers number hand answer exact within hand_is is state =
     let size = state.size in
@@ -104,11 +111,11 @@ judge-more problem good answers number hand answer exact within hand_is is state
       ];
     }
 
-pub uneven-answer : (problem : Problem) (hands : List ℕ) → IsFit problem → (empties_of problem % 4 ≡ 0 → ⊥)
-    → (hand : ℕ) → has [] hand ≡ (has hands hand && is_good (game_of problem) (filled problem.well) problem.height (needed_of problem) hand)
-uneven-answer problem hands fit uneven hand = search (rules, has-none, and_right, uneven-none)
+pub uneven-answer : (problem : Problem) (hands : HandSet) → IsFit problem → (empties_of problem % 4 ≡ 0 → ⊥)
+    → (hand : ℕ) → false ≡ (has hands hand && is_good (game_of problem) (filled problem.well) problem.height (needed_of problem) hand)
+uneven-answer problem hands fit uneven hand = search (rules, and_right, uneven-none)
 
 -- where as many hands are good as there are, all are
-pub whole-hands : (problem : Problem) (hands good : List ℕ) (test : ℕ → Bool) (number : ℕ) → IsRising hands → IsRising good → ((hand : ℕ) → has good hand ≡ (has hands hand && test hand))
-    → length good ≡ length hands → HasHandsBefore problem hands number → HasHandsBefore problem good number
-whole-hands problem hands good test number hands_up good_up good_is same state = search (rules, whole-list, and_first)
+pub whole-hands : (problem : Problem) (hands good : HandSet) (test : ℕ → Bool) (number : ℕ) → ((hand : ℕ) → has good hand ≡ (has hands hand && test hand))
+    → length (in_order good) ≡ length (in_order hands) → HasHandsBefore problem (has hands) number → HasHandsBefore problem (has good) number
+whole-hands problem hands good test number good_is same state = search (rules, has-whole, and_first)

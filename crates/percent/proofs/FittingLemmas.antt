@@ -1,5 +1,5 @@
 -- Hands that are left out are not good, one hand on.
-use Rattle.std.proofs.Common.{ℕ, suc, ◌≡◌, ◌+◌, ◌-◌, ◌/◌, ◌%◌, ◌<◌, ◌≤◌, Bool, true, false, ◌&&◌, ◌||◌, ◌==◌, cond, List, [], ◌∷◌, ◌++◌, length, length-set, get_or, take, refl, sym, ap, subst, ◌∙◌, inl, inr, arith, rules}
+use Rattle.std.proofs.Common.{ℕ, suc, ◌≡◌, ◌+◌, ◌-◌, ◌/◌, ◌%◌, ◌<◌, ◌≤◌, Bool, true, false, ◌&&◌, ◌||◌, ◌==◌, cond, List, [], ◌∷◌, length, length-set, get_or, take, refl, sym, ap, subst, ◌∙◌, inl, inr, arith, rules}
 use Rattle.std.proofs.Common.{set as list_set, slice_index}
 use Rattle.std.proofs.Math.Path.{fun_ext}
 use Rattle.std.proofs.lemmas.List.{get_or-set_other}
@@ -16,8 +16,10 @@ use Rattle.prune.proofs.CallerLemmas.{more_pieces}
 use Rattle.empty_cells.specs.declared.empties.Empties.{Empties}
 use Rattle.empty_cells.specs.Empties.{all_but, empty_cells}
 use Rattle.empty_cells.proofs.CallerLemmas.{tiling_below}
-use Rattle.number_sets.specs.Rising.{IsRising, AllBelow, has}
-use Rattle.number_sets.proofs.CallerLemmas.{has-none, has-push, has-more, has-all, rising-none, rising-push, below-push, below-more}
+use Rattle.hands.specs.declared.hand_set.HandSet.{HandSet}
+use Rattle.hands.specs.HandSets.{has, in_order}
+use Rattle.hands.specs.Rising.{has_number}
+use Rattle.hands.proofs.CallerLemmas.{has-all, has-in_order, has-more, has-none}
 use Rattle.problem.proofs.CallerLemmas.{IsLow}
 use Rattle.percent.specs.declared.game.Game.{Game}
 use Rattle.percent.specs.declared.position.Position.{Position}
@@ -51,17 +53,19 @@ unfit game p cells counts left hand count one cells_are most none =
 -- ---- the hands that are kept
 
 -- where no hand is good none need be kept
-pub none-kept : (v hands : List ℕ) (good : ℕ → Bool) → ((hand : ℕ) → has hands hand ≡ true → good hand ≡ false) → v ≡ [] → (hand : ℕ) → (has v hand && good hand) ≡ (has hands hand && good hand)
-none-kept v hands good bad nil hand = search (rules, has-none)
+pub none-kept : (v hands : HandSet) (good : ℕ → Bool) → ((hand : ℕ) → has hands hand ≡ true → good hand ≡ false) → ((hand : ℕ) → has v hand ≡ false)
+    → (hand : ℕ) → (has v hand && good hand) ≡ (has hands hand && good hand)
+none-kept v hands good bad none hand = search rules
 
 -- of the first i hands those that are good are kept
-pub record Sifting (good : Game → ℕ → Bool) (hands v : List ℕ) (i : ℕ) : Type 0 where
-  pub rises : IsRising v
-  pub members : (game : Game) (hand : ℕ) → (has v hand && good game hand) ≡ (has (take i hands) hand && good game hand)
-  pub below : i < length hands → AllBelow v (get_or hands i 0)
+pub record Sifting (good : Game → ℕ → Bool) (hands : List ℕ) (v : HandSet) (i : ℕ) : Type 0 where
+  pub members : (game : Game) (hand : ℕ) → (has v hand && good game hand) ≡ (has_number (take i hands) hand && good game hand)
 
-pub sift-starts : (good : Game → ℕ → Bool) (hands v : List ℕ) → v ≡ [] → Sifting good hands v 0
-sift-starts good hands v nil = search (rules, rising-none, has-none)
+both_none : (a b g : Bool) → a ≡ false → b ≡ false → (a && g) ≡ (b && g)
+both_none a b g first second = search rules
+
+pub sift-starts : (good : Game → ℕ → Bool) (hands : List ℕ) (v : HandSet) → ((hand : ℕ) → has v hand ≡ false) → Sifting good hands v 0
+sift-starts good hands v none = record { members = λ game hand. both_none (has v hand) (has_number [] hand) (good game hand) (none hand) (has-none hand) }
 
 pushed : (a b e g : Bool) → (a && g) ≡ (b && g) → ((a || e) && g) ≡ ((b || e) && g)
 pushed a b e g h = search rules
@@ -69,34 +73,32 @@ pushed a b e g h = search rules
 passed : (a b e g : Bool) → (a && g) ≡ (b && g) → (e ≡ true → g ≡ false) → (a && g) ≡ ((b || e) && g)
 passed a b e g h bad = search rules
 
-pub sift-push : (good : Game → ℕ → Bool) (hands v : List ℕ) (i : ℕ) → IsRising hands → Sifting good hands v i → i < length hands → Sifting good hands (v ++ get_or hands i 0 ∷ []) (i + 1)
-sift-push good hands v i up state in_hands = record {
-  rises = rising-push v (get_or hands i 0) state.rises (state.below in_hands);
-  members = λ game hand. ap (λ b. b && good game hand) (has-push v (get_or hands i 0) hand)
-      ∙ pushed (has v hand) (has (take i hands) hand) (get_or hands i 0 == hand) (good game hand) (state.members game hand)
+pub sift-push : (good : Game → ℕ → Bool) (hands : List ℕ) (v more : HandSet) (i : ℕ) → Sifting good hands v i → i < length hands
+    → ((other : ℕ) → has more other ≡ (has v other || get_or hands i 0 == other)) → Sifting good hands more (i + 1)
+sift-push good hands v more i state in_hands more_is = record {
+  members = λ game hand. ap (λ b. b && good game hand) (more_is hand)
+      ∙ pushed (has v hand) (has_number (take i hands) hand) (get_or hands i 0 == hand) (good game hand) (state.members game hand)
       ∙ ap (λ b. b && good game hand) (sym (has-more hands i hand in_hands));
-  below = λ more. let next = up i (i + 1) (omega arith) more in
-      below-push v (get_or hands i 0) (get_or hands (i + 1) 0) (below-more v (get_or hands i 0) (get_or hands (i + 1) 0) (state.below in_hands) (omega arith)) next;
 }
 
-pub sift-pass : (good : Game → ℕ → Bool) (hands v : List ℕ) (i : ℕ) → IsRising hands → Sifting good hands v i → i < length hands → ((game : Game) → good game (get_or hands i 0) ≡ false) → Sifting good hands v (i + 1)
-sift-pass good hands v i up state in_hands bad = record {
-  rises = state.rises;
-  members = λ game hand. passed (has v hand) (has (take i hands) hand) (get_or hands i 0 == hand) (good game hand) (state.members game hand)
+pub sift-pass : (good : Game → ℕ → Bool) (hands : List ℕ) (v : HandSet) (i : ℕ) → Sifting good hands v i → i < length hands → ((game : Game) → good game (get_or hands i 0) ≡ false) → Sifting good hands v (i + 1)
+sift-pass good hands v i state in_hands bad = record {
+  members = λ game hand. passed (has v hand) (has_number (take i hands) hand) (get_or hands i 0 == hand) (good game hand) (state.members game hand)
       (λ same. ap (good game) (sym (eqb-true (get_or hands i 0) hand same)) ∙ bad game)
       ∙ ap (λ b. b && good game hand) (sym (has-more hands i hand in_hands));
-  below = λ more. let next = up i (i + 1) (omega arith) more in
-      below-more v (get_or hands i 0) (get_or hands (i + 1) 0) (state.below in_hands) (omega arith);
 }
 
-pub sift-ends : (good : Game → ℕ → Bool) (hands v : List ℕ) (i : ℕ) → length hands ≤ i → Sifting good hands v i → (game : Game) (hand : ℕ) → (has v hand && good game hand) ≡ (has hands hand && good game hand)
-sift-ends good hands v i all state game hand = state.members game hand ∙ ap (λ b. b && good game hand) (has-all hands i hand all)
+pub sift-ends : (good : Game → ℕ → Bool) (set : HandSet) (hands : List ℕ) (v : HandSet) (i : ℕ) → hands ≡ in_order set → length hands ≤ i → Sifting good hands v i
+    → (game : Game) (hand : ℕ) → (has v hand && good game hand) ≡ (has set hand && good game hand)
+sift-ends good set hands v i listed all state game hand =
+    state.members game hand
+    ∙ ap (λ b. b && good game hand) (has-all hands i hand all ∙ ap (λ l. has_number l hand) listed ∙ sym (has-in_order set hand))
 
 -- ---- the greatest counts
 
 -- the counts are as great as those of each of the first i hands
 pub record Covering (hands counts : List ℕ) (pieces i : ℕ) : Type 0 where
-  pub each : (hand : ℕ) → has (take i hands) hand ≡ true → (code : ℕ) → code < 8 → codes_in pieces hand code ≤ get_or counts code 0
+  pub each : (hand : ℕ) → has_number (take i hands) hand ≡ true → (code : ℕ) → code < 8 → codes_in pieces hand code ≤ get_or counts code 0
 
 pub cover-starts : (hands counts : List ℕ) (pieces : ℕ) → Covering hands counts pieces 0
 cover-starts hands counts pieces = record { each = λ hand there. let none = has-none hand in cc }
@@ -106,21 +108,22 @@ pub cover-more : (hands counts more next : List ℕ) (pieces i : ℕ) → Coveri
     → ((code : ℕ) → code < 8 → get_or counts code 0 ≤ get_or next code 0) → ((code : ℕ) → code < 8 → get_or more code 0 ≤ get_or next code 0)
     → Covering hands next pieces (i + 1)
 cover-more hands counts more next pieces i state in_hands more_is first second = record {
-  each = λ hand there code few. at hand code few (has (take i hands) hand) refl (sym (has-more hands i hand in_hands) ∙ there);
+  each = λ hand there code few. at hand code few (has_number (take i hands) hand) refl (sym (has-more hands i hand in_hands) ∙ there);
 }
   where
-    at : (hand code : ℕ) → code < 8 → (b : Bool) → has (take i hands) hand ≡ b → (has (take i hands) hand || get_or hands i 0 == hand) ≡ true → codes_in pieces hand code ≤ get_or next code 0
+    at : (hand code : ℕ) → code < 8 → (b : Bool) → has_number (take i hands) hand ≡ b → (has_number (take i hands) hand || get_or hands i 0 == hand) ≡ true → codes_in pieces hand code ≤ get_or next code 0
     at hand code few true old there = let before = state.each hand old code few in let step = first code few in omega arith
     at hand code few false old there =
-        let same : get_or hands i 0 ≡ hand = eqb-true (get_or hands i 0) hand (or_second (has (take i hands) hand) (get_or hands i 0 == hand) old there) in
+        let same : get_or hands i 0 ≡ hand = eqb-true (get_or hands i 0) hand (or_second (has_number (take i hands) hand) (get_or hands i 0 == hand) old there) in
         let is = more_is code few in
         let step = second code few in
         let equal = ap (λ n. codes_in pieces n code) same in
         omega (arith, equal)
 
-pub cover-ends : (hands counts : List ℕ) (pieces i : ℕ) → length hands ≤ i → Covering hands counts pieces i
-    → (hand : ℕ) → has hands hand ≡ true → (code : ℕ) → code < 8 → codes_in pieces hand code ≤ get_or counts code 0
-cover-ends hands counts pieces i all state hand there = state.each hand (has-all hands i hand all ∙ there)
+pub cover-ends : (set : HandSet) (hands counts : List ℕ) (pieces i : ℕ) → hands ≡ in_order set → length hands ≤ i → Covering hands counts pieces i
+    → (hand : ℕ) → has set hand ≡ true → (code : ℕ) → code < 8 → codes_in pieces hand code ≤ get_or counts code 0
+cover-ends set hands counts pieces i listed all state hand there =
+    state.each hand (has-all hands i hand all ∙ ap (λ l. has_number l hand) listed ∙ sym (has-in_order set hand) ∙ there)
 
 -- ---- counts one by one
 

@@ -1,5 +1,5 @@
 -- The steps of looking into hands, as facts about what lists have.
-use Rattle.std.proofs.Common.{ℕ, suc, ◌≡◌, ◌+◌, ◌*◌, ◌/◌, ◌%◌, ◌<◌, ◌≤◌, Bool, true, false, not, ◌&&◌, ◌||◌, ◌==◌, List, [], length, get_or, take, drop, ap, subst, ◌∙◌, sym, inl, inr, arith, rules}
+use Rattle.std.proofs.Common.{ℕ, suc, ◌≡◌, ◌+◌, ◌*◌, ◌/◌, ◌%◌, ◌<◌, ◌≤◌, Bool, true, false, not, ◌&&◌, ◌||◌, ◌==◌, List, length, get_or, take, drop, ap, subst, ◌∙◌, sym, inl, inr, arith, rules}
 use Rattle.std.specs.List.{list_any}
 use Rattle.std.specs.Prelude.{IsPermutation}
 use Rattle.std.proofs.lemmas.List.Sorted.{list_any-IsPermutation}
@@ -11,8 +11,8 @@ use Rattle.srs.specs.declared.piece.Piece.{Piece}
 use Rattle.srs.specs.Piece.{all_pieces, piece_code}
 use Rattle.well.specs.Well.{filled}
 use Rattle.hold_queue.specs.declared.hold.Hold.{Hold}
-use Rattle.number_sets.specs.Rising.{IsRising, has}
-use Rattle.number_sets.proofs.CallerLemmas.{has-none}
+use Rattle.hands.specs.declared.hand_set.HandSet.{HandSet}
+use Rattle.hands.specs.HandSets.{has}
 use Rattle.percent.specs.declared.game.Game.{Game}
 use Rattle.percent.specs.declared.position.Child.{Child}
 use Rattle.hands.specs.Hands.{allows_hold, takes, with_first, with_second, without_first, without_second}
@@ -35,7 +35,7 @@ or_right : (a b c : Bool) → b ≡ true → c ≡ true → (a || (b && c)) ≡ 
 or_right a b c h k = search rules
 
 -- the rests of a hand that is asked about are asked about, so the answer for them is that for the hand
-answer-taken : (hold : Hold) (code : ℕ) (asked rests good : List ℕ) (after : ℕ → Bool) (hand : ℕ) → has asked hand ≡ true
+answer-taken : (hold : Hold) (code : ℕ) (asked rests good : HandSet) (after : ℕ → Bool) (hand : ℕ) → has asked hand ≡ true
     → ((rest : ℕ) → has rests rest ≡ (has asked (with_first code rest) || (allows_hold hold && has asked (with_second code rest))))
     → ((rest : ℕ) → has good rest ≡ (has rests rest && after rest))
     → takes hold code (has good) hand ≡ takes hold code after hand
@@ -55,9 +55,8 @@ answer-taken hold code asked rests good after hand there rests_is good_is =
 -- ---- one kind after the other
 
 -- the hands for which none of the first i kinds leads to a good rest are still asked about
-pub record Exploring (order : List Piece) (game now : Game) (F : Field) (rows left : ℕ) (hands asked : List ℕ) (before after : ℕ) (i : ℕ) : Type 0 where
+pub record Exploring (order : List Piece) (game now : Game) (F : Field) (rows left : ℕ) (hands asked : HandSet) (before after : ℕ) (i : ℕ) : Type 0 where
   pub same : now ≡ game
-  pub rises : IsRising asked
   pub counted : before ≤ after
   pub members : (hand : ℕ) → has asked hand
       ≡ (has hands hand && not (list_any (λ piece. takes game.hold (piece_code piece) (is_good_after game F rows piece left) hand) (take i order)))
@@ -65,23 +64,22 @@ pub record Exploring (order : List Piece) (game now : Game) (F : Field) (rows le
 not_none : (a : Bool) → a ≡ (a && not false)
 not_none a = search rules
 
-pub explore-starts : (order : List Piece) (game : Game) (F : Field) (rows left : ℕ) (hands asked : List ℕ) (steps : ℕ) → asked ≡ hands → IsRising hands → Exploring order game game F rows left hands asked steps steps 0
-explore-starts order game F rows left hands asked steps is up = search (rules, not_none)
+pub explore-starts : (order : List Piece) (game : Game) (F : Field) (rows left : ℕ) (hands asked : HandSet) (steps : ℕ) → asked ≡ hands → Exploring order game game F rows left hands asked steps steps 0
+explore-starts order game F rows left hands asked steps is = search (rules, not_none)
 
 ask_less : (w a t u : Bool) → ((w && not a) ≡ true → t ≡ u) → ((w && not a) && not t) ≡ (w && not (a || u))
 ask_less w a t u same = search rules
 
-explore-more : (order : List Piece) (game now next_game : Game) (F : Field) (rows left : ℕ) (hands asked rests good next : List ℕ) (before middle after i : ℕ) (d : Piece)
+pub explore-step : (order : List Piece) (game now next_game : Game) (F : Field) (rows left : ℕ) (hands asked rests good next : HandSet) (before middle after i : ℕ) (d : Piece)
     → Exploring order game now F rows left hands asked before middle i → i < length order
     → ((rest : ℕ) → has rests rest ≡ (has asked (with_first (piece_code (get_or order i d)) rest) || (allows_hold now.hold && has asked (with_second (piece_code (get_or order i d)) rest))))
     → ((rest : ℕ) → has good rest ≡ (has rests rest && is_good_after now F rows (get_or order i d) left rest))
     → next_game ≡ now → middle ≤ after
-    → IsRising next → ((hand : ℕ) → has next hand ≡ (has asked hand && not (takes now.hold (piece_code (get_or order i d)) (has good) hand)))
+    → ((hand : ℕ) → has next hand ≡ (has asked hand && not (takes now.hold (piece_code (get_or order i d)) (has good) hand)))
     → Exploring order game next_game F rows left hands next before after (i + 1)
-explore-more order game now next_game F rows left hands asked rests good next before middle after i d state within rests_is good_is same later rises next_is =
+explore-step order game now next_game F rows left hands asked rests good next before middle after i d state within rests_is good_is same later next_is =
     record {
       same = same ∙ state.same;
-      rises = rises;
       counted = omega (arith, state.counted, later);
       members = λ hand.
           let test : Piece → Bool = λ piece. takes game.hold (piece_code piece) (is_good_after game F rows piece left) hand in
@@ -92,25 +90,6 @@ explore-more order game now next_game F rows left hands asked rests good next be
           ∙ ask_less (has hands hand) (list_any test (take i order)) (takes now.hold (piece_code (get_or order i d)) (has good) hand) (test (get_or order i d)) (λ there. taken (state.members hand ∙ there))
           ∙ ap (λ b. has hands hand && not b) (sym (list_any_more test order i d within));
     }
-
--- the same where the clauses are over other names of the lists
-pub explore-step : (order : List Piece) (game now next_game : Game) (F : Field) (rows left : ℕ) (hands asked asked1 asked2 rests rests1 good good1 next : List ℕ) (before middle after i : ℕ) (d : Piece)
-    → Exploring order game now F rows left hands asked before middle i → i < length order
-    → asked1 ≡ asked
-    → ((rest : ℕ) → has rests rest ≡ (has asked1 (with_first (piece_code (get_or order i d)) rest) || (allows_hold now.hold && has asked1 (with_second (piece_code (get_or order i d)) rest))))
-    → rests1 ≡ rests
-    → ((rest : ℕ) → has good rest ≡ (has rests1 rest && is_good_after now F rows (get_or order i d) left rest))
-    → next_game ≡ now → middle ≤ after
-    → IsRising next → asked2 ≡ asked → good1 ≡ good
-    → ((hand : ℕ) → has next hand ≡ (has asked2 hand && not (takes now.hold (piece_code (get_or order i d)) (has good1) hand)))
-    → Exploring order game next_game F rows left hands next before after (i + 1)
-explore-step order game now next_game F rows left hands asked asked1 asked2 rests rests1 good good1 next before middle after i d state within e1 rests_is e2 good_is same later rises e3 e4 next_is =
-    explore-more order game now next_game F rows left hands asked rests good next before middle after i d state within
-    (subst (λ l. (rest : ℕ) → has rests rest ≡ (has l (with_first (piece_code (get_or order i d)) rest) || (allows_hold now.hold && has l (with_second (piece_code (get_or order i d)) rest)))) e1 rests_is)
-    (subst (λ l. (rest : ℕ) → has good rest ≡ (has l rest && is_good_after now F rows (get_or order i d) left rest)) e2 good_is)
-    same later rises
-    (subst (λ l. (hand : ℕ) → has next hand ≡ (has asked hand && not (takes now.hold (piece_code (get_or order i d)) (has l) hand))) e4
-    (subst (λ l. (hand : ℕ) → has next hand ≡ (has l hand && not (takes now.hold (piece_code (get_or order i d)) (has good1) hand))) e3 next_is))
 
 taken_back : (w a : Bool) → (w && not (w && not a)) ≡ (w && a)
 taken_back w a = search rules
@@ -124,18 +103,18 @@ all_tried order game F rows left i same all hand =
     ap (list_any test) (take_all i order all) ∙ sym (list_any-IsPermutation test all_pieces order same) ∙ sym (good-step game F rows left hand) ∙ ap (λ n. is_good game F rows n hand) (sym one)
 
 -- the hands that are still open are those that aren't good
-pub explore-open : (order : List Piece) (game now : Game) (F : Field) (rows left : ℕ) (hands asked : List ℕ) (before after i : ℕ) → IsPermutation all_pieces order → Exploring order game now F rows left hands asked before after i → length order ≤ i
+pub explore-open : (order : List Piece) (game now : Game) (F : Field) (rows left : ℕ) (hands asked : HandSet) (before after i : ℕ) → IsPermutation all_pieces order → Exploring order game now F rows left hands asked before after i → length order ≤ i
     → (hand : ℕ) → has asked hand ≡ (has hands hand && not (is_good now F rows (left + 1) hand))
 explore-open order game now F rows left hands asked before after i same state all hand = search (rules, all_tried)
 
 not_second : (w t : Bool) → (w && not t) ≡ true → t ≡ false
 not_second w t there = search rules
 
-pub open-bad : (hands asked : List ℕ) (good : ℕ → Bool) → ((hand : ℕ) → has asked hand ≡ (has hands hand && not (good hand))) → (hand : ℕ) → has asked hand ≡ true → good hand ≡ false
+pub open-bad : (hands asked : HandSet) (good : ℕ → Bool) → ((hand : ℕ) → has asked hand ≡ (has hands hand && not (good hand))) → (hand : ℕ) → has asked hand ≡ true → good hand ≡ false
 open-bad hands asked good asked_is hand there = not_second (has hands hand) (good hand) (sym (asked_is hand) ∙ there)
 
 -- the answers at a position are those at one that is the same
-pub answers-at : (game : Game) (p q : Position) (n left : ℕ) (hands good bad : List ℕ) → p ≡ q → n ≡ left
+pub answers-at : (game : Game) (p q : Position) (n left : ℕ) (hands good bad : HandSet) → p ≡ q → n ≡ left
     → AreAnswered game (filled p.well) p.rows n hands good bad → AreAnswered game (filled q.well) q.rows left hands good bad
 answers-at game p q n left hands good bad at same answers =
     subst (λ n. AreAnswered game (filled q.well) q.rows n hands good bad) same
@@ -144,29 +123,27 @@ answers-at game p q n left hands good bad at same answers =
 -- ---- one child after the other
 
 -- the rests that are good at none of the first i children are still asked about
-pub record Trying (game now : Game) (left : ℕ) (children : List Child) (rests asked : List ℕ) (before after : ℕ) (i : ℕ) : Type 0 where
+pub record Trying (game now : Game) (left : ℕ) (children : List Child) (rests asked : HandSet) (before after : ℕ) (i : ℕ) : Type 0 where
   pub same : now ≡ game
-  pub rises : IsRising asked
   pub counted : before ≤ after
   pub members : (rest : ℕ) → has asked rest ≡ (has rests rest && not (is_good_at game (take i children) left rest))
 
-pub try-starts : (game : Game) (left : ℕ) (children : List Child) (rests asked : List ℕ) (before after : ℕ) → asked ≡ rests → IsRising rests → before ≤ after → Trying game game left children rests asked before after 0
+pub try-starts : (game : Game) (left : ℕ) (children : List Child) (rests asked : HandSet) (before after : ℕ) → ((rest : ℕ) → has asked rest ≡ has rests rest) → before ≤ after → Trying game game left children rests asked before after 0
 unfolding is_good_at
-try-starts game left children rests asked before after is up more = search (rules, not_none)
+try-starts game left children rests asked before after same more = search (rules, not_none)
 
 and_again : (w a g : Bool) → ((w && not a) && not ((w && not a) && g)) ≡ (w && not (a || g))
 and_again w a g = search rules
 
-pub try-more : (game now next_game : Game) (left : ℕ) (children : List Child) (rests asked good next : List ℕ) (before middle after i : ℕ) (child : Child)
+pub try-step : (game now next_game : Game) (left : ℕ) (children : List Child) (rests asked good next : HandSet) (before middle after i : ℕ) (child : Child)
     → Trying game now left children rests asked before middle i → i < length children → get_or children i child ≡ child
     → ((rest : ℕ) → has good rest ≡ (has asked rest && is_good now (filled child.position.well) child.position.rows left rest))
     → next_game ≡ now → middle ≤ after
-    → IsRising next → ((rest : ℕ) → has next rest ≡ (has asked rest && not (has good rest)))
+    → ((rest : ℕ) → has next rest ≡ (has asked rest && not (has good rest)))
     → Trying game next_game left children rests next before after (i + 1)
 unfolding is_good_at
-try-more game now next_game left children rests asked good next before middle after i child state within at good_is same later rises next_is = record {
+try-step game now next_game left children rests asked good next before middle after i child state within at good_is same later next_is = record {
   same = same ∙ state.same;
-  rises = rises;
   counted = omega (arith, state.counted, later);
   members = λ rest.
       let test : Child → Bool = λ child. is_good game (filled child.position.well) child.position.rows left rest in
@@ -179,21 +156,7 @@ try-more game now next_game left children rests asked good next before middle af
       ∙ ap (λ b. has rests rest && not b) (sym more);
 }
 
-pub try-step : (game now next_game : Game) (left : ℕ) (children : List Child) (rests asked asked1 asked2 good good1 next : List ℕ) (before middle after i : ℕ) (child : Child)
-    → Trying game now left children rests asked before middle i → i < length children → get_or children i child ≡ child
-    → asked1 ≡ asked
-    → ((rest : ℕ) → has good rest ≡ (has asked1 rest && is_good now (filled child.position.well) child.position.rows left rest))
-    → next_game ≡ now → middle ≤ after
-    → IsRising next → asked2 ≡ asked → good1 ≡ good
-    → ((rest : ℕ) → has next rest ≡ (has asked2 rest && not (has good1 rest)))
-    → Trying game next_game left children rests next before after (i + 1)
-try-step game now next_game left children rests asked asked1 asked2 good good1 next before middle after i child state within at e1 good_is same later rises e2 e3 next_is =
-    try-more game now next_game left children rests asked good next before middle after i child state within at
-    (subst (λ l. (rest : ℕ) → has good rest ≡ (has l rest && is_good now (filled child.position.well) child.position.rows left rest)) e1 good_is)
-    same later rises
-    (subst (λ l. (rest : ℕ) → has next rest ≡ (has asked rest && not (has l rest))) e3 (subst (λ l. (rest : ℕ) → has next rest ≡ (has l rest && not (has good1 rest))) e2 next_is))
-
-pub try-ends : (game now : Game) (F : Field) (rows : ℕ) (piece : Piece) (left : ℕ) (children : List Child) (rests asked found : List ℕ) (before after i : ℕ)
+pub try-ends : (game now : Game) (F : Field) (rows : ℕ) (piece : Piece) (left : ℕ) (children : List Child) (rests asked found : HandSet) (before after i : ℕ)
     → Trying game now left children rests asked before after i → length children ≤ i
     → ((rest : ℕ) → has rests rest ≡ true → is_good_at game children left rest ≡ is_good_after game F rows piece left rest)
     → ((rest : ℕ) → has found rest ≡ (has rests rest && not (has asked rest)))
@@ -209,14 +172,14 @@ good_before game left rest i children good =
     sym (ap (list_any test) (take-append-drop i children)) ∙ list_any-append test (take i children) (drop i children) ∙ or_left _ _ good
 
 -- where none is asked about any more, all are good
-pub try-all : (game now : Game) (F : Field) (rows : ℕ) (piece : Piece) (left : ℕ) (children : List Child) (rests asked : List ℕ) (before after i : ℕ)
-    → Trying game now left children rests asked before after i → asked ≡ []
+pub try-all : (game now : Game) (F : Field) (rows : ℕ) (piece : Piece) (left : ℕ) (children : List Child) (rests asked : HandSet) (before after i : ℕ)
+    → Trying game now left children rests asked before after i → ((rest : ℕ) → has asked rest ≡ false)
     → ((rest : ℕ) → has rests rest ≡ true → is_good_at game children left rest ≡ is_good_after game F rows piece left rest)
     → (rest : ℕ) → has rests rest ≡ (has rests rest && is_good_after game F rows piece left rest)
 try-all game now F rows piece left children rests asked before after i state none children_are rest =
     elim (cases_Bool (has rests rest)) [
       | inl there ↦
-          let open_now : (has rests rest && not (is_good_at game (take i children) left rest)) ≡ false = sym (state.members rest) ∙ ap (λ l. has l rest) none ∙ has-none rest in
+          let open_now : (has rests rest && not (is_good_at game (take i children) left rest)) ≡ false = sym (state.members rest) ∙ none rest in
           let found : is_good_at game (take i children) left rest ≡ true = not-false _ (sym (ap (λ b. b && not (is_good_at game (take i children) left rest)) there) ∙ open_now) in
           there ∙ sym (and_from _ _ there (sym (children_are rest there) ∙ good_before game left rest i children found))
       | inr apart ↦ apart ∙ sym (ap (λ b. b && is_good_after game F rows piece left rest) apart)
@@ -224,7 +187,7 @@ try-all game now F rows piece left children rests asked before after i state non
 
 -- ---- the whole answer
 
-pub answer-looked : (known unknown found hands answer : List ℕ) (good : ℕ → Bool)
+pub answer-looked : (known unknown found hands answer : HandSet) (good : ℕ → Bool)
     → ((hand : ℕ) → (has known hand || (has unknown hand && good hand)) ≡ (has hands hand && good hand))
     → ((hand : ℕ) → has found hand ≡ (has unknown hand && good hand))
     → ((hand : ℕ) → has answer hand ≡ (has known hand || has found hand))
@@ -235,33 +198,30 @@ less_none : (a b : Bool) → b ≡ false → a ≡ (a && not b)
 less_none a b h = search rules
 
 -- less nothing all stay
-pub less-none : (numbers found : List ℕ) → found ≡ [] → (number : ℕ) → has numbers number ≡ (has numbers number && not (has found number))
-less-none numbers found nil number = less_none (has numbers number) (has found number) (ap (λ l. has l number) nil ∙ has-none number)
+pub less-none : (hands found : HandSet) → ((hand : ℕ) → has found hand ≡ false) → (hand : ℕ) → has hands hand ≡ (has hands hand && not (has found hand))
+less-none hands found none hand = less_none (has hands hand) (has found hand) (none hand)
 
--- the answer for the hands that are kept is that for all
-pub answer-kept : (kept fit hands : List ℕ) (good : ℕ → Bool) → fit ≡ kept → ((hand : ℕ) → (has kept hand && good hand) ≡ (has hands hand && good hand))
-    → (hand : ℕ) → (has fit hand && good hand) ≡ (has hands hand && good hand)
-answer-kept kept fit hands good same kept_is hand = ap (λ l. has l hand && good hand) same ∙ kept_is hand
+-- nothing of nothing
+pub none-of : (hands : HandSet) (good : ℕ → Bool) (hand : ℕ) → has hands hand ≡ false → false ≡ (has hands hand && good hand)
+none-of hands good hand none = search rules
 
-no_hand : (a b : Bool) → a ≡ false → (a && b) ≡ a
-no_hand a b h = search rules
-
--- where no hand is kept none is good
-pub answer-none : (kept hands : List ℕ) (good : ℕ → Bool) → kept ≡ [] → ((hand : ℕ) → (has kept hand && good hand) ≡ (has hands hand && good hand))
-    → (hand : ℕ) → has kept hand ≡ (has hands hand && good hand)
-answer-none kept hands good nil kept_is hand = sym (no_hand (has kept hand) (good hand) (ap (λ l. has l hand) nil ∙ has-none hand)) ∙ kept_is hand
-
-pub answer-known : (known unknown hands : List ℕ) (good : ℕ → Bool)
+pub answer-known : (known unknown hands : HandSet) (good : ℕ → Bool)
     → ((hand : ℕ) → (has known hand || (has unknown hand && good hand)) ≡ (has hands hand && good hand))
     → ((hand : ℕ) → has unknown hand ≡ false)
     → (hand : ℕ) → has known hand ≡ (has hands hand && good hand)
 answer-known known unknown hands good whole none hand = search (rules, or_false)
 
+pub answer-found : (known unknown found hands : HandSet) (good : ℕ → Bool)
+    → ((hand : ℕ) → (has known hand || (has unknown hand && good hand)) ≡ (has hands hand && good hand))
+    → ((hand : ℕ) → has known hand ≡ false) → ((hand : ℕ) → has found hand ≡ (has unknown hand && good hand))
+    → (hand : ℕ) → has found hand ≡ (has hands hand && good hand)
+answer-found known unknown found hands good whole none found_is hand = search rules
+
 second_true : (a b c : Bool) → a ≡ (b && c) → a ≡ true → c ≡ true
 second_true a b c is there = search rules
 
 -- what is found is good, and what isn't found isn't
-pub found-good : (found unknown : List ℕ) (good : ℕ → Bool) → ((hand : ℕ) → has found hand ≡ (has unknown hand && good hand)) → (hand : ℕ) → has found hand ≡ true → good hand ≡ true
+pub found-good : (found unknown : HandSet) (good : ℕ → Bool) → ((hand : ℕ) → has found hand ≡ (has unknown hand && good hand)) → (hand : ℕ) → has found hand ≡ true → good hand ≡ true
 found-good found unknown good found_is hand there = second_true (has found hand) (has unknown hand) (good hand) (found_is hand) there
 
 pub good-ends : (game : Game) (F : Field) (rows left hand : ℕ) → left ≡ 0 → is_good game F rows left hand ≡ (rows == 0)

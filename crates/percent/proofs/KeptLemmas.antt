@@ -1,5 +1,5 @@
 -- A slot stands for a position, and what is kept is true of it.
-use Rattle.std.proofs.Common.{◌≡◌, ℕ, nat_lt, Bool, true, false, ◌&&◌, ◌||◌, not, List, [], ◌+◌, ◌≤◌, All, Some, length, refl, sym, ap, subst, ◌∙◌, inl, inr, arith, rules}
+use Rattle.std.proofs.Common.{◌≡◌, ℕ, nat_lt, Bool, true, false, ◌&&◌, ◌||◌, not, List, ◌+◌, ◌≤◌, All, Some, length, refl, sym, ap, subst, ◌∙◌, inl, inr, arith, rules}
 use Rattle.std.specs.Prelude.{IfSome, slice_get}
 use Rattle.std.proofs.lemmas.List.Sums.{get_or-le-sum_by, sum_by-le, sum_by-set}
 use Rattle.std.proofs.Math.Path.{fun_ext}
@@ -10,8 +10,9 @@ use Rattle.fact_table.proofs.CallerLemmas.{facts-entry, facts-none}
 use Rattle.lane_board.specs.Field.{intersection, rows_below}
 use Rattle.well.specs.Well.{filled}
 use Rattle.well.proofs.CallerLemmas.{filled-within}
-use Rattle.number_sets.specs.Rising.{IsRising, has}
-use Rattle.number_sets.proofs.CallerLemmas.{has-none, rising-none}
+use Rattle.hands.specs.declared.hand_set.HandSet.{HandSet}
+use Rattle.hands.specs.HandSets.{has}
+use Rattle.hands.proofs.CallerLemmas.{has-at}
 use Rattle.well.specs.CellBits.{cells_in_bits}
 use Rattle.percent.specs.declared.game.Game.{Game}
 use Rattle.percent.specs.declared.position.Position.{Position}
@@ -37,33 +38,72 @@ all_below p = fun_ext (λ x. fun_ext (at x))
 pub bits-filled : (p : Position) (cells : ℕ) → cells_in_bits cells ≡ intersection (filled p.well) (rows_below p.rows) → cells_in_bits cells ≡ filled p.well
 bits-filled p cells is = is ∙ all_below p
 
-empty-slot : (game : Game) (slot : Slot) → slot.found.items ≡ [] → slot.missed.items ≡ [] → IsTrueSlot game slot
-empty-slot game slot found missed = search (rules, rising-none, has-none)
+-- a slot without answers says nothing that is false
+empty-slot : (game : Game) (slot : Slot) → answers_of slot ≡ 0 → IsTrueSlot game slot
+unfolding answers_of
+empty-slot game slot none = record {
+  found_true = λ hand there. let at = has-at slot.found hand there in absurd (omega (arith, at.1, none));
+  missed_true = λ hand there. let at = has-at slot.missed hand there in absurd (omega (arith, at.1, none));
+}
 
 -- a slot with the cells and rows of a position is true of it
 pub slot-found : (game : Game) (slot : Slot) (p : Position) (left : ℕ) → IsTrueSlot game slot → cells_in_bits slot.cells ≡ filled p.well → slot.rows ≡ p.rows → slot.left ≡ left
-    → (hand : ℕ) → has slot.found.items hand ≡ true → is_good game (filled p.well) p.rows left hand ≡ true
+    → (hand : ℕ) → has slot.found hand ≡ true → is_good game (filled p.well) p.rows left hand ≡ true
 slot-found game slot p left is cells rows same hand there = (λ i. is_good game (sym cells i) (sym rows i) (sym same i) hand) ∙ is.found_true hand there
 
 pub slot-missed : (game : Game) (slot : Slot) (p : Position) (left : ℕ) → IsTrueSlot game slot → cells_in_bits slot.cells ≡ filled p.well → slot.rows ≡ p.rows → slot.left ≡ left
-    → (hand : ℕ) → has slot.missed.items hand ≡ true → is_good game (filled p.well) p.rows left hand ≡ false
+    → (hand : ℕ) → has slot.missed hand ≡ true → is_good game (filled p.well) p.rows left hand ≡ false
 slot-missed game slot p left is cells rows same hand there = (λ i. is_good game (sym cells i) (sym rows i) (sym same i) hand) ∙ is.missed_true hand there
 
-either : (a b g want : Bool) → (a ≡ true → g ≡ want) → (b ≡ true → g ≡ want) → (a || b) ≡ true → g ≡ want
-either a b g want first second there = search rules
+-- sets that have given answers, and of a position only true ones
+pub record AreTrueOf (game : Game) (p : Position) (left : ℕ) (found missed : HandSet) (both : HandSet × HandSet) : Type 0 where
+  pub found_true : (hand : ℕ) → has both.0 hand ≡ true → is_good game (filled p.well) p.rows left hand ≡ true
+  pub missed_true : (hand : ℕ) → has both.1 hand ≡ true → is_good game (filled p.well) p.rows left hand ≡ false
+  pub found_in : (hand : ℕ) → has found hand ≡ true → has both.0 hand ≡ true
+  pub missed_in : (hand : ℕ) → has missed hand ≡ true → has both.1 hand ≡ true
+
+-- the given ones alone
+pub true-alone : (game : Game) (p : Position) (left : ℕ) (found missed found_alone missed_alone : HandSet)
+    → ((hand : ℕ) → has found_alone hand ≡ has found hand) → ((hand : ℕ) → has missed_alone hand ≡ has missed hand)
+    → ((hand : ℕ) → has found hand ≡ true → is_good game (filled p.well) p.rows left hand ≡ true)
+    → ((hand : ℕ) → has missed hand ≡ true → is_good game (filled p.well) p.rows left hand ≡ false)
+    → AreTrueOf game p left found missed (found_alone, missed_alone)
+true-alone game p left found missed found_alone missed_alone found_is missed_is g n = record {
+  found_true = λ hand there. g hand (sym (found_is hand) ∙ there);
+  missed_true = λ hand there. n hand (sym (missed_is hand) ∙ there);
+  found_in = λ hand there. found_is hand ∙ there;
+  missed_in = λ hand there. missed_is hand ∙ there;
+}
+
+either : (a b c g want : Bool) → c ≡ (a || b) → (a ≡ true → g ≡ want) → (b ≡ true → g ≡ want) → c ≡ true → g ≡ want
+either a b c g want is first second there = search rules
+
+in_either : (a b c : Bool) → c ≡ (a || b) → b ≡ true → c ≡ true
+in_either a b c is there = search rules
 
 -- what was known and what is new
-pub new-slot : (game : Game) (slot : Slot) (p : Position) (left : ℕ) (found_before found missed_before missed : List ℕ)
-    → cells_in_bits slot.cells ≡ filled p.well → slot.rows ≡ p.rows → slot.left ≡ left
-    → IsRising slot.found.items → ((hand : ℕ) → has slot.found.items hand ≡ (has found_before hand || has found hand))
-    → IsRising slot.missed.items → ((hand : ℕ) → has slot.missed.items hand ≡ (has missed_before hand || has missed hand))
+pub true-merged : (game : Game) (p : Position) (left : ℕ) (found missed found_before missed_before found_all missed_all : HandSet)
+    → ((hand : ℕ) → has found_all hand ≡ (has found_before hand || has found hand)) → ((hand : ℕ) → has missed_all hand ≡ (has missed_before hand || has missed hand))
     → ((hand : ℕ) → has found_before hand ≡ true → is_good game (filled p.well) p.rows left hand ≡ true)
     → ((hand : ℕ) → has missed_before hand ≡ true → is_good game (filled p.well) p.rows left hand ≡ false)
     → ((hand : ℕ) → has found hand ≡ true → is_good game (filled p.well) p.rows left hand ≡ true)
     → ((hand : ℕ) → has missed hand ≡ true → is_good game (filled p.well) p.rows left hand ≡ false)
-    → IsTrueSlot game slot
-new-slot game slot p left found_before found missed_before missed cells rows same found_rises found_is missed_rises missed_is f m g n =
-    search (rules, either)
+    → AreTrueOf game p left found missed (found_all, missed_all)
+true-merged game p left found missed found_before missed_before found_all missed_all found_is missed_is f m g n = record {
+  found_true = λ hand. either (has found_before hand) (has found hand) (has found_all hand) (is_good game (filled p.well) p.rows left hand) true (found_is hand) (f hand) (g hand);
+  missed_true = λ hand. either (has missed_before hand) (has missed hand) (has missed_all hand) (is_good game (filled p.well) p.rows left hand) false (missed_is hand) (m hand) (n hand);
+  found_in = λ hand. in_either (has found_before hand) (has found hand) (has found_all hand) (found_is hand);
+  missed_in = λ hand. in_either (has missed_before hand) (has missed hand) (has missed_all hand) (missed_is hand);
+}
+
+-- a slot of such sets is true
+pub new-slot : (game : Game) (slot : Slot) (p : Position) (left : ℕ) (found missed : HandSet) (both : HandSet × HandSet)
+    → cells_in_bits slot.cells ≡ filled p.well → slot.rows ≡ p.rows → slot.left ≡ left → slot.found ≡ both.0 → slot.missed ≡ both.1
+    → AreTrueOf game p left found missed both → IsTrueSlot game slot
+new-slot game slot p left found missed both cells rows same found_is missed_is are = record {
+  found_true = λ hand there. (λ i. is_good game (cells i) (rows i) (same i) hand) ∙ are.found_true hand (ap (λ (s : HandSet). has s hand) (sym found_is) ∙ there);
+  missed_true = λ hand there. (λ i. is_good game (cells i) (rows i) (same i) hand) ∙ are.missed_true hand (ap (λ (s : HandSet). has s hand) (sym missed_is) ∙ there);
+}
 
 -- what is known and what is open make the answer
 pub recalled-is : (w f m rest unknown good g : Bool) → (f ≡ true → g ≡ true) → (m ≡ true → g ≡ false)
@@ -75,10 +115,10 @@ recalled-is w f m rest unknown good g found missed rest_is unknown_is good_is = 
 
 -- what a slot without answers says
 abbrev pub IsBlank : Slot → Type 0
-IsBlank slot = (slot.found.items ≡ []) × (slot.missed.items ≡ [])
+IsBlank slot = answers_of slot ≡ 0
 
 pub blank-true : (game : Game) (slots : List Slot) → All IsBlank slots → All (IsTrueSlot game) slots
-blank-true game slots blank = facts-none IsBlank (IsTrueSlot game) slots (λ slot none. empty-slot game slot none.0 none.1) blank
+blank-true game slots blank = facts-none IsBlank (IsTrueSlot game) slots (empty-slot game) blank
 
 -- a slot that is read is true
 pub slot-true : (game : Game) (slots : List Slot) (hash : ℕ) (slot : Slot) → All (IsTrueSlot game) slots → Some slot ≡ slice_get slots (slot_in (length slots) hash) → IsTrueSlot game slot
@@ -88,7 +128,7 @@ slot-true game slots hash slot all is = subst (λ o. IfSome o (IsTrueSlot game))
 
 none-counted : (slot : Slot) → IsBlank slot → answers_of slot ≤ 0
 unfolding answers_of
-none-counted slot none = let a = ap length none.0 in let b = ap length none.1 in omega (arith, a, b)
+none-counted slot none = omega (arith, none)
 
 pub blank-counted : (slots : List Slot) → All IsBlank slots → answers_in slots ≡ 0
 unfolding answers_in

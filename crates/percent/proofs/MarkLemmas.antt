@@ -5,7 +5,8 @@ use Rattle.std.proofs.lemmas.Bool.{cases_Bool, cases_lt, cond-true, cond-false, 
 use Rattle.std.specs.Prelude.{All, Contains, Option, Some, None, IfSome, IsSomeAnd, slice_get}
 use Rattle.std.proofs.lemmas.Option.{slice_get_within, get_or_from_slice_get}
 use Rattle.std.proofs.lemmas.List.{get_or_append_left, get_or_push, length-append}
-use Rattle.number_sets.specs.Rising.{has}
+use Rattle.hands.specs.declared.hand_set.HandSet.{HandSet}
+use Rattle.hands.specs.HandSets.{has, in_order}
 use Rattle.problem.proofs.CallerLemmas.{locked-low}
 use Rattle.srs.proofs.CallerLemmas.{some_same, piece_code-small}
 use Rattle.lane_board.specs.Lanes.{has_bit}
@@ -50,7 +51,7 @@ use Rattle.percent.specs.Spread.{IsSpread}
 use Rattle.percent.specs.Wanted.{IsWanted}
 use Rattle.percent.proofs.FittingLemmas.{low-position}
 use Rattle.percent.proofs.TiledLemmas.{good-tiled}
-use Rattle.number_sets.proofs.CallerLemmas.{has-at}
+use Rattle.hands.proofs.CallerLemmas.{has-at}
 
 -- the counts of a rest and a piece more are enough for the rest when the piece is placed
 enough : (piece other : Piece) (count rest : ℕ) (counts : List ℕ) → ((code : ℕ) → code < 8 → codes_with piece count rest code ≤ get_or counts code 0)
@@ -312,13 +313,13 @@ set-more indexes wanted i index state here low = record { each = each }
     ]
 
 -- where the bits of all indexes are set, the mark of each rest is wanted
-pub all-wanted : (known : List Mark) (piece : Piece) (left : ℕ) (rests : List ℕ) (indexes items : List (Option ℕ)) (wanted i : ℕ) → AreIndexes known piece left rests indexes → items ≡ indexes
+pub all-wanted : (known : List Mark) (piece : Piece) (left : ℕ) (rests : HandSet) (indexes items : List (Option ℕ)) (wanted i : ℕ) → AreIndexes known piece left (in_order rests) indexes → items ≡ indexes
     → AreSet items wanted i → length items ≤ i → (rest : ℕ) → has rests rest ≡ true → IsWanted known piece left rest wanted
 all-wanted known piece left rests indexes items wanted i are same set all rest here =
     let at = has-at rests rest here in
     let bit : IsSet wanted (get_or indexes at.0 None) = subst (λ l. IsSet wanted (get_or l at.0 None)) same
     (set.each at.0 (let size = are.size in let long = ap length same in omega (arith, at.1, size, long, all))) in
-    let mark = mark-there (IsMarkOf known piece left (get_or rests at.0 0)) (λ index. (index < 64) × (has_bit wanted index ≡ true)) (get_or indexes at.0 None) (are.each at.0 at.1) bit in
+    let mark = mark-there (IsMarkOf known piece left (get_or (in_order rests) at.0 0)) (λ index. (index < 64) × (has_bit wanted index ≡ true)) (get_or indexes at.0 None) (are.each at.0 at.1) bit in
     subst (λ r. IsWanted known piece left r wanted) at.2 (record { index = mark.0; mark = mark.1; set = mark.2.1 })
 
 -- a placement that stands in none of the marks that are wanted leaves no rest good

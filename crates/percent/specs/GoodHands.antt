@@ -11,7 +11,8 @@ use Rattle.well.specs.Well.{filled}
 use Rattle.well.specs.Lock.{locked, rows_removed}
 use Rattle.well.specs.LockLaws.{is_below}
 use Rattle.moves.specs.PlaceTest.{is_place}
-use Rattle.number_sets.specs.Rising.{has}
+use Rattle.hands.specs.declared.hand_set.HandSet.{HandSet}
+use Rattle.hands.specs.HandSets.{has}
 use Rattle.queue_pattern.specs.Pattern.{elements_of}
 use Rattle.queue_pattern.specs.Queues.{queues}
 use Rattle.problem.specs.declared.problem.Problem.{Problem}
@@ -58,12 +59,12 @@ hand_at problem number =
     hand_of problem.hold problem.held (needed_of problem)
     (slice_index_or (queues (elements_of problem.pattern)) number [])
 
--- these hands have that of each queue before this number
-pub record HasHandsBefore (problem : Problem) (hands : List ℕ) (number : ℕ) : Type 0 where
-  pub each : (k : ℕ) → k < number → has hands (hand_at problem k) ≡ true
+-- a test passes for the hand of each queue before this number
+pub record HasHandsBefore (problem : Problem) (has_hand : ℕ → Bool) (number : ℕ) : Type 0 where
+  pub each : (k : ℕ) → k < number → has_hand (hand_at problem k) ≡ true
 
 -- the hands of good queues are those among these
-pub record HasGoodHands (problem : Problem) (hands : List ℕ) : Type 0 where
+pub record HasGoodHands (problem : Problem) (hands : HandSet) : Type 0 where
   pub each : (number : ℕ) → number < length (queues (elements_of problem.pattern))
       → has hands (hand_at problem number)
       ≡ is_good_queue problem (slice_index_or (queues (elements_of problem.pattern)) number [])

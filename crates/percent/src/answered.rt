@@ -1,6 +1,6 @@
 // The hands that are good at a position, from kept answers or by searching every position that a piece leads to.
 ghost use Rattle.std.specs.Prelude.{◌≡◌, ℕ, ◌≤◌, ◌+◌, ◌&&◌, ◌==◌, not, IfOk};
-ghost use Rattle.number_sets.specs.Rising.{IsRising, has};
+ghost use Rattle.hands.specs.HandSets.{has, in_order};
 ghost use Rattle.well.specs.Well.{filled};
 ghost use Rattle.percent.specs.Children.{IsChild};
 ghost use Rattle.percent.specs.GoodHands.{is_good, is_good_after};
@@ -11,8 +11,7 @@ use crate::kept::Kept;
 use crate::listed::{marks_after, marks_of};
 use crate::marks::{Asked, Marks, fitting_after};
 use crate::position::{Child, Position};
-use hands::{not_leading_to, rests_of, wanted_first};
-use number_sets::{merged, without};
+use hands::HandSet;
 use pc_outside::NoMemory;
 use reach::Steps;
 use srs::Piece;
@@ -20,16 +19,14 @@ use std::alloc::Global;
 use std::sync::ledger::Ledger;
 
 /// The hands that are good if no placement is to come: all if no row is left, otherwise none.
-fn answered_at_end(alloc: Global, position: &Position, hands: &[u64]) -> Result<Vec<u64>, NoMemory>
-    requires { IsRising hands.now }
-    ensures rises { IfOk result (λ v. IsRising v.items) }
-    ensures members { IfOk result (λ v. (hand : ℕ) →
-        has v.items hand ≡ (has hands.now hand && position.now.rows == 0)) }
+fn answered_at_end(alloc: Global, position: &Position, hands: &HandSet) -> Result<HandSet, NoMemory>
+    ensures { IfOk result (λ good. (hand : ℕ) →
+        has good hand ≡ (has hands.now hand && position.now.rows == 0)) }
 {
     if position.rows == 0 {
-        return Ok(Vec::from_slice(alloc, hands)?);
+        return hands.copied(alloc);
     }
-    Ok(Vec::new(alloc))
+    Ok(HandSet::none(alloc))
 }
 
 /// The rests asked about that were not found, at the position of the marks.
@@ -39,22 +36,19 @@ fn less(
     piece: Piece,
     left: u8,
     asked: Asked,
-    found: &[u64],
+    found: &HandSet,
 ) -> Result<Asked, NoMemory>
     requires few { left ≤ 20 }
-    requires asked { IsRising asked.rests.items }
-    requires found { IsRising found.now }
-    requires indexes { AreIndexes marks.now.known.items piece left asked.rests.items asked.indexes.items }
-    ensures rises { IfOk result (λ asked. IsRising asked.rests.items) }
-    ensures indexes { IfOk result (λ asked. AreIndexes marks.now.known.items piece left asked.rests.items
+    requires indexes { AreIndexes marks.now.known.items piece left (in_order asked.rests) asked.indexes.items }
+    ensures indexes { IfOk result (λ asked. AreIndexes marks.now.known.items piece left (in_order asked.rests)
         asked.indexes.items) }
     ensures members { IfOk result (λ less. (rest : ℕ) →
-        has less.rests.items rest ≡ (has asked.rests.items rest && not (has found.now rest))) }
+        has less.rests rest ≡ (has asked.rests rest && not (has found.now rest))) }
 {
     if found.is_empty() {
         return Ok(asked);
     }
-    let rests = without(alloc, asked.rests.as_slice(), found)?;
+    let rests = asked.rests.without(alloc, found)?;
     marks.asked_of(alloc, piece, left, &asked, rests)
 }
 
@@ -66,15 +60,13 @@ fn answered<L: Ledger>(
     marks: &Marks,
     child: &Child,
     left: u8,
-    hands: &[u64],
+    hands: &HandSet,
     steps: &mut Steps<L>,
-) -> Result<Vec<u64>, NoMemory>
+) -> Result<HandSet, NoMemory>
     requires few { left ≤ 20 }
-    requires rises { IsRising hands.now }
     requires child { IsChild (filled marks.now.position.well) marks.now.position.rows child.now.placement.piece
         child.now }
-    ensures rises { IfOk result (λ v. IsRising v.items) }
-    ensures members { IfOk result (λ v. (hand : ℕ) → has v.items hand ≡ (has hands.now hand
+    ensures members { IfOk result (λ good. (hand : ℕ) → has good hand ≡ (has hands.now hand
         && is_good kept.old.game (filled child.now.position.well) child.now.position.rows left hand)) }
     ensures game { kept.new.game ≡ kept.old.game }
     ensures counted { steps.old ≤ steps.new }
@@ -83,7 +75,7 @@ fn answered<L: Ledger>(
         return answered_at_end(alloc, &child.position, hands);
     }
     if hands.is_empty() {
-        return Ok(Vec::new(alloc));
+        return Ok(HandSet::none(alloc));
     }
     let Some((known, unknown)) = kept.recalled(alloc, &child.position, left, hands)? else {
         return searched(alloc, kept, marks, child, left, hands, steps);
@@ -91,11 +83,11 @@ fn answered<L: Ledger>(
     if unknown.is_empty() {
         return Ok(known);
     }
-    let found = searched(alloc, kept, marks, child, left, unknown.as_slice(), steps)?;
+    let found = searched(alloc, kept, marks, child, left, &unknown, steps)?;
     if known.is_empty() {
         return Ok(found);
     }
-    merged(alloc, known.as_slice(), found.as_slice())
+    known.merged(alloc, &found)
 }
 
 /// The same for hands about which nothing is known there. All answers are kept.
@@ -106,16 +98,14 @@ fn searched<L: Ledger>(
     marks: &Marks,
     child: &Child,
     left: u8,
-    hands: &[u64],
+    hands: &HandSet,
     steps: &mut Steps<L>,
-) -> Result<Vec<u64>, NoMemory>
+) -> Result<HandSet, NoMemory>
     requires some { 1 ≤ left }
     requires few { left ≤ 20 }
-    requires rises { IsRising hands.now }
     requires child { IsChild (filled marks.now.position.well) marks.now.position.rows child.now.placement.piece
         child.now }
-    ensures rises { IfOk result (λ v. IsRising v.items) }
-    ensures members { IfOk result (λ v. (hand : ℕ) → has v.items hand ≡ (has hands.now hand
+    ensures members { IfOk result (λ good. (hand : ℕ) → has good hand ≡ (has hands.now hand
         && is_good kept.old.game (filled child.now.position.well) child.now.position.rows left hand)) }
     ensures game { kept.new.game ≡ kept.old.game }
     ensures counted { steps.old ≤ steps.new }
@@ -123,13 +113,7 @@ fn searched<L: Ledger>(
     let hold = kept.game.hold;
     let below = marks_after(alloc, &mut kept.lister, hold, marks, child, left, hands);
     let (good, bad) = explored(alloc, kept, &below, left - 1, hands, steps)?;
-    kept.keep(
-        alloc,
-        &child.position,
-        left,
-        good.as_slice(),
-        bad.as_slice(),
-    );
+    kept.keep(alloc, &child.position, left, &good, &bad);
     Ok(good)
 }
 
@@ -141,24 +125,22 @@ fn missed<L: Ledger>(
     kept: &mut Kept,
     marks: &Marks,
     left: u8,
-    hands: Vec<u64>,
+    hands: HandSet,
     steps: &mut Steps<L>,
-) -> Result<Vec<u64>, NoMemory>
-    requires few { left ≤ 19 }
-    requires rises { IsRising hands.items }
-    ensures rises { IfOk result (λ v. IsRising v.items) }
-    ensures members { IfOk result (λ v. (hand : ℕ) → has v.items hand ≡ (has hands.items hand && not (
+) -> Result<HandSet, NoMemory>
+    requires { left ≤ 19 }
+    ensures members { IfOk result (λ bad. (hand : ℕ) → has bad hand ≡ (has hands hand && not (
         is_good kept.old.game (filled marks.now.position.well) marks.now.position.rows (left + 1) hand))) }
     ensures game { kept.new.game ≡ kept.old.game }
     ensures counted { steps.old ≤ steps.new }
 {
-    let order = wanted_first(kept.game.hold, hands.as_slice());
+    let order = hands.wanted_first(kept.game.hold);
     let mut open = hands;
     for piece in order {
         let hold = kept.game.hold;
-        let rests = rests_of(alloc, hold, piece, open.as_slice())?;
-        let good = tried(alloc, kept, marks, left, piece, rests.as_slice(), steps)?;
-        open = not_leading_to(alloc, hold, piece, open, good.as_slice())?;
+        let rests = open.rests_of(alloc, hold, piece)?;
+        let good = tried(alloc, kept, marks, left, piece, &rests, steps)?;
+        open = open.not_leading_to(alloc, hold, piece, &good)?;
     }
     Ok(open)
 }
@@ -171,27 +153,26 @@ fn explored<L: Ledger>(
     kept: &mut Kept,
     marks: &Marks,
     left: u8,
-    hands: &[u64],
+    hands: &HandSet,
     steps: &mut Steps<L>,
-) -> Result<(Vec<u64>, Vec<u64>), NoMemory>
-    requires few { left ≤ 19 }
-    requires rises { IsRising hands.now }
-    ensures answers { IfOk result (λ v. AreAnswered kept.old.game (filled marks.now.position.well)
-        marks.now.position.rows (left + 1) hands.now v.0.items v.1.items) }
+) -> Result<(HandSet, HandSet), NoMemory>
+    requires { left ≤ 19 }
+    ensures answers { IfOk result (λ answers. AreAnswered kept.old.game (filled marks.now.position.well)
+        marks.now.position.rows (left + 1) hands.now answers.0 answers.1) }
     ensures game { kept.new.game ≡ kept.old.game }
     ensures counted { steps.old ≤ steps.new }
 {
     if !marks.asks_orders(&kept.game, left + 1) {
-        let all = Vec::from_slice(alloc, hands)?;
+        let all = hands.copied(alloc)?;
         let bad = missed(alloc, kept, marks, left, all, steps)?;
-        let good = without(alloc, hands, bad.as_slice())?;
+        let good = hands.without(alloc, &bad)?;
         return Ok((good, bad));
     }
     let likely = marks.buildable(alloc, &kept.game, left + 1, hands)?;
-    let all = Vec::from_slice(alloc, likely.as_slice())?;
+    let all = likely.copied(alloc)?;
     let open = missed(alloc, kept, marks, left, all, steps)?;
-    let good = without(alloc, likely.as_slice(), open.as_slice())?;
-    let bad = without(alloc, hands, good.as_slice())?;
+    let good = likely.without(alloc, &open)?;
+    let bad = hands.without(alloc, &good)?;
     Ok((good, bad))
 }
 
@@ -204,33 +185,31 @@ fn tried<L: Ledger>(
     marks: &Marks,
     left: u8,
     piece: Piece,
-    rests: &[u64],
+    rests: &HandSet,
     steps: &mut Steps<L>,
-) -> Result<Vec<u64>, NoMemory>
-    requires few { left ≤ 19 }
-    requires rises { IsRising rests.now }
-    ensures rises { IfOk result (λ v. IsRising v.items) }
-    ensures members { IfOk result (λ v. (rest : ℕ) → has v.items rest
+) -> Result<HandSet, NoMemory>
+    requires { left ≤ 19 }
+    ensures members { IfOk result (λ good. (rest : ℕ) → has good rest
         ≡ (has rests.now rest && is_good_after kept.old.game (filled marks.now.position.well)
         marks.now.position.rows piece left rest)) }
     ensures game { kept.new.game ≡ kept.old.game }
     ensures counted { steps.old ≤ steps.new }
 {
     if rests.is_empty() {
-        return Ok(Vec::new(alloc));
+        return Ok(HandSet::none(alloc));
     }
-    let all = Vec::from_slice(alloc, rests)?;
+    let all = rests.copied(alloc)?;
     let mut asked = marks.asked(alloc, piece, left, all)?;
     let children = marks.children(alloc, kept, piece, left, &asked, steps)?;
     for child in &children {
         if asked.rests.is_empty() {
-            return Ok(Vec::from_slice(alloc, rests)?);
+            return rests.copied(alloc);
         }
         let fit = fitting_after(alloc, &mut kept.fits, marks, child, left, &asked)?;
-        let good = answered(alloc, kept, marks, child, left, fit.as_slice(), steps)?;
-        asked = less(alloc, marks, piece, left, asked, good.as_slice())?;
+        let good = answered(alloc, kept, marks, child, left, &fit, steps)?;
+        asked = less(alloc, marks, piece, left, asked, &good)?;
     }
-    without(alloc, rests, asked.rests.as_slice())
+    rests.without(alloc, &asked.rests)
 }
 
 /// The hands that are good at a first position with `left` placements to come. These answers are not kept, since no
@@ -240,13 +219,11 @@ pub fn answered_first<L: Ledger>(
     kept: &mut Kept,
     position: &Position,
     left: u8,
-    hands: &[u64],
+    hands: &HandSet,
     steps: &mut Steps<L>,
-) -> Result<Vec<u64>, NoMemory>
-    requires few { left ≤ 20 }
-    requires rises { IsRising hands.now }
-    ensures rises { IfOk result (λ v. IsRising v.items) }
-    ensures members { IfOk result (λ v. (hand : ℕ) → has v.items hand
+) -> Result<HandSet, NoMemory>
+    requires { left ≤ 20 }
+    ensures members { IfOk result (λ good. (hand : ℕ) → has good hand
         ≡ (has hands.now hand && is_good kept.old.game (filled position.now.well) position.now.rows left hand)) }
     ensures counted { steps.old ≤ steps.new }
 {

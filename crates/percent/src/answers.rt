@@ -2,12 +2,12 @@
 ghost use Rattle.std.specs.Prelude.{◌≡◌, ◌≤◌, IfOk, count_by, length};
 ghost use Rattle.queue_pattern.specs.Pattern.{elements_of};
 ghost use Rattle.queue_pattern.specs.Queues.{queues};
-ghost use Rattle.number_sets.specs.Rising.{IsRising};
+ghost use Rattle.hands.specs.HandSets.{has, in_order};
 ghost use Rattle.problem.specs.Problem.{IsFit};
 ghost use Rattle.percent.specs.GoodHands.{AreAnswers, HasGoodHands, HasHandsBefore, is_good_queue};
 
 use crate::start::{good_hands, hand};
-use number_sets::{Starts, as_set};
+use hands::{HandSet, Starts};
 use pc_outside::NoMemory;
 use problem::Problem;
 use reach::Steps;
@@ -15,23 +15,22 @@ use std::alloc::Global;
 use std::sync::ledger::Ledger;
 
 /// The hands of all queues, each once.
-fn hands_of(alloc: Global, problem: &Problem) -> Result<Vec<u64>, NoMemory>
+fn hands_of(alloc: Global, problem: &Problem) -> Result<HandSet, NoMemory>
     requires { IsFit problem.now }
-    ensures rises { IfOk result (λ v. IsRising v.items) }
-    ensures each { IfOk result (λ v.
-        HasHandsBefore problem.now v.items (length (queues (elements_of problem.now.pattern)))) }
+    ensures { IfOk result (λ hands.
+        HasHandsBefore problem.now (has hands) (length (queues (elements_of problem.now.pattern)))) }
 {
     let count = problem.pattern.count();
     let mut hands = Vec::with_capacity(alloc, count as usize)?;
     for number in 0..count {
         hands.push(hand(problem, number))?;
     }
-    as_set(alloc, hands)
+    HandSet::of(alloc, hands)
 }
 
 /// That each queue is good, where the hand of each is among good ones.
-fn all_good(alloc: Global, problem: &Problem, hands: &[u64]) -> Result<Vec<bool>, NoMemory>
-    requires each { HasHandsBefore problem.now hands.now (length (queues (elements_of problem.now.pattern))) }
+fn all_good(alloc: Global, problem: &Problem, hands: &HandSet) -> Result<Vec<bool>, NoMemory>
+    requires each { HasHandsBefore problem.now (has hands.now) (length (queues (elements_of problem.now.pattern))) }
     requires exact { HasGoodHands problem.now hands.now }
     ensures { IfOk result (λ v. AreAnswers problem.now v.items (length (queues (elements_of problem.now.pattern)))) }
 {
@@ -45,11 +44,15 @@ fn all_good(alloc: Global, problem: &Problem, hands: &[u64]) -> Result<Vec<bool>
 
 /// For each queue, by its number, whether it is good: whether its hand is among the good ones. If there are as many good
 /// hands as there are hands in `all`, each is.
-fn judged(alloc: Global, problem: &Problem, all: usize, good: &[u64]) -> Result<Vec<bool>, NoMemory>
+fn judged(
+    alloc: Global,
+    problem: &Problem,
+    all: usize,
+    good: &HandSet,
+) -> Result<Vec<bool>, NoMemory>
     requires fit { IsFit problem.now }
-    requires whole { length good.now ≡ all →
-        HasHandsBefore problem.now good.now (length (queues (elements_of problem.now.pattern))) }
-    requires rises { IsRising good.now }
+    requires whole { length (in_order good.now) ≡ all →
+        HasHandsBefore problem.now (has good.now) (length (queues (elements_of problem.now.pattern))) }
     requires exact { HasGoodHands problem.now good.now }
     ensures { IfOk result (λ v. AreAnswers problem.now v.items (length (queues (elements_of problem.now.pattern)))) }
 {
@@ -109,7 +112,7 @@ impl Answers {
         let hands = hands_of(alloc, problem)?;
         let all = hands.len();
         let good = good_hands(alloc, problem, hands, steps)?;
-        let good = judged(alloc, problem, all, good.as_slice())?;
+        let good = judged(alloc, problem, all, &good)?;
         let count = count_good(problem, good.as_slice());
         Ok(Answers {
             problem: *problem,

@@ -9,6 +9,7 @@ use crate::fitting::counts_of;
 use crate::game::Game;
 use crate::marks::{Mark, Marks, index_of};
 use empty_cells::Empties;
+use hands::HandSet;
 use hold_queue::Hold;
 use moves::DropMode;
 use pc_outside::NoMemory;
@@ -161,7 +162,7 @@ impl Marks {
     ghost use Rattle.std.specs.Prelude.{ℕ, ◌&&◌, IfOk, vec_len};
     ghost use Rattle.well.specs.Well.{filled};
     ghost use Rattle.empty_cells.specs.Empties.{empty_cells};
-    ghost use Rattle.number_sets.specs.Rising.{IsRising, has};
+    ghost use Rattle.hands.specs.HandSets.{has};
     ghost use Rattle.percent.specs.Building.{AreMarksFor, AreTested, IsBlock, IsHandOf};
     ghost use Rattle.percent.specs.GoodHands.{is_good};
     ghost use Rattle.percent.specs.Marks.{IsTrueMark};
@@ -287,23 +288,22 @@ impl Marks {
         alloc: Global,
         game: &Game,
         left: u8,
-        hands: &[u64],
-    ) -> Result<Vec<u64>, NoMemory>
-        requires few { left ≤ 20 }
-        requires rises { IsRising hands.now }
-        ensures rises { IfOk result (λ v. IsRising v.items) }
-        ensures members { IfOk result (λ v. (hand : ℕ) → (has v.items hand
+        hands: &HandSet,
+    ) -> Result<HandSet, NoMemory>
+        requires { left ≤ 20 }
+        ensures { IfOk result (λ likely. (hand : ℕ) → (has likely hand
             && is_good game.now (filled self.now.position.well) self.now.position.rows left hand)
             ≡ (has hands.now hand
             && is_good game.now (filled self.now.position.well) self.now.position.rows left hand)) }
     {
-        let may = self.may_serve(alloc, &Question::new(game, left), hands)?;
-        let mut v = Vec::with_capacity(alloc, hands.len())?;
-        for index in 0..hands.len() {
+        let numbers = hands.numbers();
+        let may = self.may_serve(alloc, &Question::new(game, left), numbers)?;
+        let mut likely = HandSet::with_room(alloc, numbers.len())?;
+        for index in 0..numbers.len() {
             if may[index] {
-                v.push(hands[index])?;
+                likely.insert(numbers[index])?;
             }
         }
-        Ok(v)
+        Ok(likely)
     }
 }

@@ -8,7 +8,7 @@ ghost use Rattle.lane_board.specs.Field.{difference};
 ghost use Rattle.prune.specs.Tiling.{Supply, Tiling};
 ghost use Rattle.empty_cells.specs.Empties.{all_but, empty_cells};
 ghost use Rattle.empty_cells.specs.SentCells.{sent_cells};
-ghost use Rattle.number_sets.specs.Rising.{has};
+ghost use Rattle.hands.specs.HandSets.{has, in_order};
 ghost use Rattle.percent.specs.declared.game.Game.{Game};
 ghost use Rattle.percent.specs.Children.{IsChild};
 ghost use Rattle.percent.specs.GoodHands.{is_good, is_good_after, is_good_at};
@@ -39,8 +39,8 @@ struct Standing {
 impl Marks {
     /// The marks of the rests asked about: bit `k` stands for mark `k`. `None` if a rest has no mark.
     fn wanted(&self, piece: Piece, left: u8, asked: &Asked) -> Option<u64>
-        requires { AreIndexes self.now.known.items piece left asked.now.rests.items asked.now.indexes.items }
-        ensures { IfSome result (λ wanted. (rest : ℕ) → has asked.now.rests.items rest ≡ true
+        requires { AreIndexes self.now.known.items piece left (in_order asked.now.rests) asked.now.indexes.items }
+        ensures { IfSome result (λ wanted. (rest : ℕ) → has asked.now.rests rest ≡ true
             → IsWanted self.now.known.items piece left rest wanted) }
     {
         let mut wanted = 0u64;
@@ -123,9 +123,9 @@ impl Marks {
         requires below { IsTrue (is_below self.now.position.rows placement.now) }
         requires taken { empty_cells taken.now ≡ sent_cells self.now.rows placement.now }
         requires standing { IsStanding self.now.known.items self.now.rows placement.now standing }
-        requires wanted { IfSome wanted (λ wanted. (rest : ℕ) → has asked.now.rests.items rest ≡ true
+        requires wanted { IfSome wanted (λ wanted. (rest : ℕ) → has asked.now.rests rest ≡ true
             → IsWanted self.now.known.items placement.now.piece left rest wanted) }
-        ensures { result ≡ false → (game : Game) (rest : ℕ) → has asked.now.rests.items rest ≡ true
+        ensures { result ≡ false → (game : Game) (rest : ℕ) → has asked.now.rests rest ≡ true
             → is_good game (locked (filled self.now.position.well) placement.now)
             (self.now.position.rows - rows_removed (filled self.now.position.well) placement.now) left rest ≡ false }
     {
@@ -147,12 +147,13 @@ impl Marks {
         steps: &mut Steps<L>,
     ) -> Result<Vec<Child>, NoMemory>
         requires few { left ≤ 20 }
-        requires indexes { AreIndexes self.now.known.items piece left asked.now.rests.items asked.now.indexes.items }
+        requires indexes { AreIndexes self.now.known.items piece left (in_order asked.now.rests)
+            asked.now.indexes.items }
         ensures after { IfOk result (λ v. All (IsChild (filled self.now.position.well) self.now.position.rows piece)
             v.items) }
         ensures standing { IfOk result (λ v. All (λ child. IsStanding self.now.known.items self.now.rows
             child.placement child.standing) v.items) }
-        ensures good { IfOk result (λ v. (rest : ℕ) → has asked.now.rests.items rest ≡ true
+        ensures good { IfOk result (λ v. (rest : ℕ) → has asked.now.rests rest ≡ true
             → is_good_at kept.now.game v.items left rest
             ≡ is_good_after kept.now.game (filled self.now.position.well) self.now.position.rows piece left rest) }
         ensures counted { steps.new ≡ steps.old + 1 }

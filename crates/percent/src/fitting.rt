@@ -3,7 +3,7 @@ ghost use Rattle.std.specs.Prelude.{◌≡◌, ◌↔◌, ℕ, ◌≤◌, ◌<�
 ghost use Rattle.empty_cells.specs.Empties.{all_but, empty_cells};
 ghost use Rattle.well.specs.Well.{filled};
 ghost use Rattle.prune.specs.Tiling.{Tiling};
-ghost use Rattle.number_sets.specs.Rising.{IsRising, has};
+ghost use Rattle.hands.specs.HandSets.{has};
 ghost use Rattle.percent.specs.declared.game.Game.{Game};
 ghost use Rattle.percent.specs.Fitting.{codes_in, supply_by};
 ghost use Rattle.percent.specs.GoodHands.{is_good};
@@ -11,6 +11,7 @@ ghost use Rattle.percent.specs.GoodHands.{is_good};
 use crate::position::{Position, hash_of};
 use empty_cells::Empties;
 use fact_table::{Entry, FactTable};
+use hands::HandSet;
 use packing::TilingStore;
 use pc_outside::NoMemory;
 use prune::cheap_no;
@@ -95,12 +96,12 @@ fn greater(a: &Counts, b: &Counts) -> Counts
 }
 
 /// The greatest count for each code over some hands.
-fn greatest_counts(hands: &[u64], pieces: u8) -> Counts
+fn greatest_counts(hands: &HandSet, pieces: u8) -> Counts
     ensures { (hand : ℕ) → has hands.now hand ≡ true → (code : ℕ) → code < 8 →
         codes_in pieces hand code ≤ slice_index result code }
 {
     let mut counts = [0; 8];
-    for hand in hands {
+    for hand in hands.numbers() {
         counts = greater(&counts, &counts_of(*hand, pieces));
     }
     counts
@@ -152,30 +153,28 @@ pub fn fitting(
     fits: &mut FitMemory,
     position: &Position,
     left: u8,
-    hands: &[u64],
-) -> Result<Vec<u64>, NoMemory>
-    requires few { left ≤ 20 }
-    requires rises { IsRising hands.now }
-    ensures rises { IfOk result (λ v. IsRising v.items) }
-    ensures members { IfOk result (λ v. (game : Game) (hand : ℕ) →
-        (has v.items hand && is_good game (filled position.now.well) position.now.rows left hand)
+    hands: &HandSet,
+) -> Result<HandSet, NoMemory>
+    requires { left ≤ 20 }
+    ensures { IfOk result (λ fit. (game : Game) (hand : ℕ) →
+        (has fit hand && is_good game (filled position.now.well) position.now.rows left hand)
         ≡ (has hands.now hand && is_good game (filled position.now.well) position.now.rows left hand)) }
 {
-    let mut v = Vec::new(alloc);
+    let mut fit = HandSet::none(alloc);
     if cheap_no(&position.well, position.rows, &[255; 7]) {
-        return Ok(v);
+        return Ok(fit);
     }
     let cells = Empties::below(&position.well, position.rows);
     let pieces = left + 1;
     let hash = hash_of(cells.bits(), left);
     let near = position.near;
     if !fits.may_fit(&cells, hash, near, &greatest_counts(hands, pieces)) {
-        return Ok(v);
+        return Ok(fit);
     }
-    for hand in hands {
+    for hand in hands.numbers() {
         if fits.may_fit(&cells, hash, near, &counts_of(*hand, pieces)) {
-            v.push(*hand)?;
+            fit.insert(*hand)?;
         }
     }
-    Ok(v)
+    Ok(fit)
 }

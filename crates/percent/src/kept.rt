@@ -8,7 +8,7 @@ use crate::fitting::FitMemory;
 use crate::game::Game;
 use crate::position::{Position, hash_of};
 use fact_table::{Entry, FactTable};
-use number_sets::{merged, without};
+use hands::HandSet;
 use pc_outside::NoMemory;
 use place_sets::LowPlaces;
 use reach::{FloodRules, Steps};
@@ -24,8 +24,8 @@ pub struct Slot {
     pub cells: u128,
     pub rows: u8,
     pub left: u8,
-    pub found: Vec<u64>,
-    pub missed: Vec<u64>,
+    pub found: HandSet,
+    pub missed: HandSet,
 }
 
 impl Slot {
@@ -38,17 +38,15 @@ impl Slot {
 }
 
 impl Entry for Slot {
-    ghost use Rattle.std.specs.Prelude.{[]};
-
-    ghost says_nothing = { λ slot. (slot.found.items ≡ []) × (slot.missed.items ≡ []) };
+    ghost says_nothing = { λ slot. answers_of slot ≡ 0 };
 
     fn nothing(alloc: Global) -> Slot {
         Slot {
             cells: 0,
             rows: 0,
             left: 0,
-            found: Vec::new(alloc),
-            missed: Vec::new(alloc),
+            found: HandSet::none(alloc),
+            missed: HandSet::none(alloc),
         }
     }
 }
@@ -76,7 +74,7 @@ pub struct Kept {
 impl Kept {
     ghost use Rattle.std.specs.Prelude.{◌↔◌, ℕ, ◌+◌, ◌&&◌, ◌||◌, true, false, Contains, IfOk, IfSome, IsTrue};
     ghost use Rattle.fact_table.specs.Entries.{with_entry};
-    ghost use Rattle.number_sets.specs.Rising.{IsRising, has};
+    ghost use Rattle.hands.specs.HandSets.{has};
     ghost use Rattle.srs.specs.declared.placement.Placement.{Placement};
     ghost use Rattle.well.specs.CellBits.{cells_in_bits};
     ghost use Rattle.well.specs.LockLaws.{is_below};
@@ -118,22 +116,20 @@ impl Kept {
             .places_below(&position.well, piece, drop_mode, position.rows, steps)
     }
 
-    /// The hands that are known to be good at a position, and those that are known not to be.
-    fn known(&self, position: &Position, left: u8) -> (&[u64], &[u64])
-        ensures found_rises { IsRising result.0.now }
-        ensures missed_rises { IsRising result.1.now }
-        ensures found_true { (hand : ℕ) → has result.0.now hand ≡ true
-            → is_good self.now.game (filled position.now.well) position.now.rows left hand ≡ true }
-        ensures missed_true { (hand : ℕ) → has result.1.now hand ≡ true
-            → is_good self.now.game (filled position.now.well) position.now.rows left hand ≡ false }
+    /// The hands that are known to be good at a position, and those that are known not to be, if it has an entry.
+    fn known(&self, position: &Position, left: u8) -> Option<(&HandSet, &HandSet)>
+        ensures found { IfSome result (λ known. (hand : ℕ) → has known.0.now hand ≡ true
+            → is_good self.now.game (filled position.now.well) position.now.rows left hand ≡ true) }
+        ensures missed { IfSome result (λ known. (hand : ℕ) → has known.1.now hand ≡ true
+            → is_good self.now.game (filled position.now.well) position.now.rows left hand ≡ false) }
     {
         let cells = cells_below(&position.well, position.rows);
         if let Some(slot) = self.slots.entry(hash_of(cells, left)) {
             if slot.cells == cells && slot.rows == position.rows && slot.left == left {
-                return (slot.found.as_slice(), slot.missed.as_slice());
+                return Some((&slot.found, &slot.missed));
             }
         }
-        (&[], &[])
+        None
     }
 
     /// Those of the hands that are known to be good at a position, and those about which nothing is known. `None` if
@@ -143,22 +139,18 @@ impl Kept {
         alloc: Global,
         position: &Position,
         left: u8,
-        hands: &[u64],
-    ) -> Result<Option<(Vec<u64>, Vec<u64>)>, NoMemory>
-        requires { IsRising hands.now }
-        ensures good_rises { IfOk result (λ recalled. IfSome recalled (λ v. IsRising v.0.items)) }
-        ensures unknown_rises { IfOk result (λ recalled. IfSome recalled (λ v. IsRising v.1.items)) }
-        ensures members { IfOk result (λ recalled. IfSome recalled (λ v. (hand : ℕ) → (has v.0.items hand
-            || (has v.1.items hand && is_good self.now.game (filled position.now.well) position.now.rows left hand))
+        hands: &HandSet,
+    ) -> Result<Option<(HandSet, HandSet)>, NoMemory>
+        ensures { IfOk result (λ recalled. IfSome recalled (λ v. (hand : ℕ) → (has v.0 hand
+            || (has v.1 hand && is_good self.now.game (filled position.now.well) position.now.rows left hand))
             ≡ (has hands.now hand && is_good self.now.game (filled position.now.well) position.now.rows left hand))) }
     {
-        let (found, missed) = self.known(position, left);
-        if found.is_empty() && missed.is_empty() {
+        let Some((found, missed)) = self.known(position, left) else {
             return Ok(None);
-        }
-        let open = without(alloc, hands, missed)?;
-        let unknown = without(alloc, open.as_slice(), found)?;
-        let good = without(alloc, open.as_slice(), unknown.as_slice())?;
+        };
+        let open = hands.without(alloc, missed)?;
+        let unknown = open.without(alloc, found)?;
+        let good = open.without(alloc, &unknown)?;
         Ok(Some((good, unknown)))
     }
 
@@ -181,11 +173,9 @@ impl Kept {
         alloc: Global,
         position: &Position,
         left: u8,
-        found: &[u64],
-        missed: &[u64],
+        found: &HandSet,
+        missed: &HandSet,
     ) -> Result<Slot, NoMemory>
-        requires found_rises { IsRising found.now }
-        requires missed_rises { IsRising missed.now }
         requires found_true { (hand : ℕ) → has found.now hand ≡ true
             → is_good self.now.game (filled position.now.well) position.now.rows left hand ≡ true }
         requires missed_true { (hand : ℕ) → has missed.now hand ≡ true
@@ -195,13 +185,17 @@ impl Kept {
         ensures rows { IfOk result (λ slot. slot.rows ≡ position.now.rows) }
         ensures left { IfOk result (λ slot. slot.left ≡ left) }
         ensures found { IfOk result (λ slot. (hand : ℕ) → has found.now hand ≡ true
-            → has slot.found.items hand ≡ true) }
+            → has slot.found hand ≡ true) }
         ensures missed { IfOk result (λ slot. (hand : ℕ) → has missed.now hand ≡ true
-            → has slot.missed.items hand ≡ true) }
+            → has slot.missed hand ≡ true) }
     {
-        let (found_before, missed_before) = self.known(position, left);
-        let found = merged(alloc, found_before, found)?;
-        let missed = merged(alloc, missed_before, missed)?;
+        let (found, missed) = match self.known(position, left) {
+            Some((found_before, missed_before)) => (
+                found_before.merged(alloc, found)?,
+                missed_before.merged(alloc, missed)?,
+            ),
+            None => (found.copied(alloc)?, missed.copied(alloc)?),
+        };
         Ok(Slot {
             cells: cells_below(&position.well, position.rows),
             rows: position.rows,
@@ -239,11 +233,9 @@ impl Kept {
         alloc: Global,
         position: &Position,
         left: u8,
-        found: &[u64],
-        missed: &[u64],
+        found: &HandSet,
+        missed: &HandSet,
     ) -> bool
-        requires found_rises { IsRising found.now }
-        requires missed_rises { IsRising missed.now }
         requires found_true { (hand : ℕ) → has found.now hand ≡ true
             → is_good self.old.game (filled position.now.well) position.now.rows left hand ≡ true }
         requires missed_true { (hand : ℕ) → has missed.now hand ≡ true

@@ -8,14 +8,15 @@ use crate::marks::{Mark, Marks, index_of};
 use crate::position::{Child, Position};
 use crate::spread::rows_among;
 use empty_cells::Empties;
+use hands::HandSet;
 use hold_queue::Hold;
 use std::alloc::Global;
 use tiled_pieces::Lister;
 
 /// The counts of some hands, each once, or none if there are more than `most` of them or not enough memory for them.
-fn all_counts(alloc: Global, hands: &[u64], pieces: u8, most: usize) -> Vec<Counts> {
+fn all_counts(alloc: Global, hands: &HandSet, pieces: u8, most: usize) -> Vec<Counts> {
     let mut v = Vec::new(alloc);
-    for hand in hands {
+    for hand in hands.numbers() {
         let counts = counts_of(*hand, pieces);
         if v.as_slice().contains(&counts) {
             continue;
@@ -48,7 +49,7 @@ pub fn marks_of(
     hold: Hold,
     position: &Position,
     left: u8,
-    hands: &[u64],
+    hands: &HandSet,
 ) -> Marks
     requires { left ≤ 20 }
     ensures { result.position ≡ position.now }
@@ -102,7 +103,7 @@ impl Marks {
 
     /// What is known of the tilings at the position after a placement, by the pieces of some hands. A mark for which
     /// there is not enough memory is left out.
-    pub fn after(&self, alloc: Global, child: &Child, left: u8, hands: &[u64]) -> Marks
+    pub fn after(&self, alloc: Global, child: &Child, left: u8, hands: &HandSet) -> Marks
         requires few { left ≤ 20 }
         requires child { IsChild (filled self.now.position.well) self.now.position.rows child.now.placement.piece
             child.now }
@@ -112,7 +113,7 @@ impl Marks {
         let cells = self.cells.without_cells(&taken);
         let mut known = Vec::new(alloc);
         let mut likely = None;
-        for hand in hands {
+        for hand in hands.numbers() {
             let counts = counts_of(*hand, left + 1);
             likely = index_of(known.as_slice(), &counts, likely);
             if likely.is_some() {
@@ -140,7 +141,7 @@ pub fn marks_after(
     marks: &Marks,
     child: &Child,
     left: u8,
-    hands: &[u64],
+    hands: &HandSet,
 ) -> Marks
     requires some { 1 ≤ left }
     requires few { left ≤ 20 }

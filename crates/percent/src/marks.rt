@@ -8,7 +8,7 @@ ghost use Rattle.well.specs.LockLaws.{is_below};
 ghost use Rattle.empty_cells.specs.Empties.{empty_cells};
 ghost use Rattle.empty_cells.specs.SentCells.{sent_cells};
 ghost use Rattle.lane_board.specs.Lanes.{has_bit};
-ghost use Rattle.number_sets.specs.Rising.{IsRising, has};
+ghost use Rattle.hands.specs.HandSets.{has, in_order};
 ghost use Rattle.percent.specs.declared.game.Game.{Game};
 ghost use Rattle.percent.specs.Children.{IsChild};
 ghost use Rattle.percent.specs.Fitting.{codes_with};
@@ -19,6 +19,7 @@ ghost use Rattle.percent.specs.Spread.{IsSpread};
 use crate::fitting::{Counts, FitMemory, are_same, counts_of, fitting};
 use crate::position::{Child, Position};
 use empty_cells::Empties;
+use hands::HandSet;
 use pc_outside::NoMemory;
 use srs::{Piece, Placement};
 use std::alloc::Global;
@@ -51,7 +52,7 @@ pub struct Marks {
 /// Rests of hands, and for each the index of the mark of its pieces, if there is one.
 #[derive(Drop)]
 pub struct Asked {
-    pub rests: Vec<u64>,
+    pub rests: HandSet,
     pub indexes: Vec<Option<u8>>,
 }
 
@@ -194,16 +195,16 @@ impl Marks {
         alloc: Global,
         piece: Piece,
         left: u8,
-        rests: Vec<u64>,
+        rests: HandSet,
     ) -> Result<Asked, NoMemory>
         requires { left ≤ 20 }
-        ensures rests { IfOk result (λ asked. asked.rests.items ≡ rests.items) }
-        ensures indexes { IfOk result (λ asked. AreIndexes self.now.known.items piece left asked.rests.items
+        ensures rests { IfOk result (λ asked. asked.rests ≡ rests) }
+        ensures indexes { IfOk result (λ asked. AreIndexes self.now.known.items piece left (in_order asked.rests)
             asked.indexes.items) }
     {
         let mut indexes = Vec::with_capacity(alloc, rests.len())?;
         let mut index = None;
-        for rest in &rests {
+        for rest in rests.numbers() {
             index = self.index_with(*rest, left, piece, index);
             indexes.push(index)?;
         }
@@ -213,10 +214,12 @@ impl Marks {
     /// The index of the mark of a rest: the one that is known, if the rest stands there among those asked about.
     fn index_for(&self, asked: &Asked, at: usize, rest: u64, left: u8, piece: Piece) -> Option<u8>
         requires few { left ≤ 20 }
-        requires indexes { AreIndexes self.now.known.items piece left asked.now.rests.items asked.now.indexes.items }
+        requires indexes { AreIndexes self.now.known.items piece left (in_order asked.now.rests)
+            asked.now.indexes.items }
         ensures { IfSome result (IsMarkOf self.now.known.items piece left rest) }
     {
-        if at < asked.rests.len() && asked.rests[at] == rest {
+        let rests = asked.rests.numbers();
+        if at < rests.len() && rests[at] == rest {
             return asked.indexes[at];
         }
         self.index_with(rest, left, piece, None)
@@ -229,18 +232,20 @@ impl Marks {
         piece: Piece,
         left: u8,
         asked: &Asked,
-        rests: Vec<u64>,
+        rests: HandSet,
     ) -> Result<Asked, NoMemory>
         requires few { left ≤ 20 }
-        requires indexes { AreIndexes self.now.known.items piece left asked.now.rests.items asked.now.indexes.items }
-        ensures rests { IfOk result (λ asked. asked.rests.items ≡ rests.items) }
-        ensures indexes { IfOk result (λ asked. AreIndexes self.now.known.items piece left asked.rests.items
+        requires indexes { AreIndexes self.now.known.items piece left (in_order asked.now.rests)
+            asked.now.indexes.items }
+        ensures rests { IfOk result (λ asked. asked.rests ≡ rests) }
+        ensures indexes { IfOk result (λ asked. AreIndexes self.now.known.items piece left (in_order asked.rests)
             asked.indexes.items) }
     {
         let mut indexes = Vec::with_capacity(alloc, rests.len())?;
+        let before = asked.rests.numbers();
         let mut next = 0;
-        for rest in &rests {
-            while next < asked.rests.len() && asked.rests[next] < *rest {
+        for rest in rests.numbers() {
+            while next < before.len() && before[next] < *rest {
                 next += 1;
             }
             indexes.push(self.index_for(asked, next, *rest, left, piece))?;
@@ -255,29 +260,27 @@ impl Marks {
         child: &Child,
         left: u8,
         asked: &Asked,
-    ) -> Result<Vec<u64>, NoMemory>
+    ) -> Result<HandSet, NoMemory>
         requires few { left ≤ 20 }
-        requires rises { IsRising asked.now.rests.items }
-        requires indexes { AreIndexes self.now.known.items child.now.placement.piece left asked.now.rests.items
+        requires indexes { AreIndexes self.now.known.items child.now.placement.piece left (in_order asked.now.rests)
             asked.now.indexes.items }
         requires child { IsChild (filled self.now.position.well) self.now.position.rows child.now.placement.piece
             child.now }
         requires standing { IsStanding self.now.known.items self.now.rows child.now.placement child.now.standing }
-        ensures rises { IfOk result (λ v. IsRising v.items) }
-        ensures members { IfOk result (λ v. (game : Game) (rest : ℕ)
-            → (has v.items rest && is_good game (filled child.now.position.well) child.now.position.rows left rest)
-            ≡ (has asked.now.rests.items rest
+        ensures { IfOk result (λ likely. (game : Game) (rest : ℕ)
+            → (has likely rest && is_good game (filled child.now.position.well) child.now.position.rows left rest)
+            ≡ (has asked.now.rests rest
             && is_good game (filled child.now.position.well) child.now.position.rows left rest)) }
     {
-        let rests = asked.rests.as_slice();
+        let rests = asked.rests.numbers();
         let indexes = asked.indexes.as_slice();
-        let mut v = Vec::with_capacity(alloc, rests.len())?;
+        let mut likely = HandSet::with_room(alloc, rests.len())?;
         for index in 0..rests.len() {
             if may_stand(indexes[index], child.standing) {
-                v.push(rests[index])?;
+                likely.insert(rests[index])?;
             }
         }
-        Ok(v)
+        Ok(likely)
     }
 }
 
@@ -289,22 +292,20 @@ pub fn fitting_after(
     child: &Child,
     left: u8,
     asked: &Asked,
-) -> Result<Vec<u64>, NoMemory>
+) -> Result<HandSet, NoMemory>
     requires few { left ≤ 20 }
-    requires rises { IsRising asked.now.rests.items }
-    requires indexes { AreIndexes marks.now.known.items child.now.placement.piece left asked.now.rests.items
+    requires indexes { AreIndexes marks.now.known.items child.now.placement.piece left (in_order asked.now.rests)
         asked.now.indexes.items }
     requires child { IsChild (filled marks.now.position.well) marks.now.position.rows child.now.placement.piece
         child.now }
     requires standing { IsStanding marks.now.known.items marks.now.rows child.now.placement child.now.standing }
-    ensures rises { IfOk result (λ v. IsRising v.items) }
-    ensures members { IfOk result (λ v. (game : Game) (rest : ℕ)
-        → (has v.items rest && is_good game (filled child.now.position.well) child.now.position.rows left rest)
-        ≡ (has asked.now.rests.items rest
+    ensures { IfOk result (λ likely. (game : Game) (rest : ℕ)
+        → (has likely rest && is_good game (filled child.now.position.well) child.now.position.rows left rest)
+        ≡ (has asked.now.rests rest
         && is_good game (filled child.now.position.well) child.now.position.rows left rest)) }
 {
     if marks.is_empty() && left > 0 {
-        return fitting(alloc, fits, &child.position, left, asked.rests.as_slice());
+        return fitting(alloc, fits, &child.position, left, &asked.rests);
     }
     marks.likely(alloc, child, left, asked)
 }

@@ -3,7 +3,7 @@ ghost use Rattle.std.specs.Prelude.{◌≡◌, ℕ, ◌≤◌, ◌<◌, ◌^◌,
 ghost use Rattle.well.specs.Well.{filled};
 ghost use Rattle.queue_pattern.specs.Pattern.{elements_of};
 ghost use Rattle.queue_pattern.specs.Queues.{queues};
-ghost use Rattle.number_sets.specs.Rising.{IsRising, has};
+ghost use Rattle.hands.specs.HandSets.{has};
 ghost use Rattle.problem.specs.Problem.{IsFit, needed_of};
 ghost use Rattle.percent.specs.Good.{Good};
 ghost use Rattle.percent.specs.GoodHands.{game_of, hand_at, is_good};
@@ -13,25 +13,13 @@ use crate::fitting::fitting;
 use crate::game::Game;
 use crate::kept::Kept;
 use crate::position::Position;
-use hands::hand_of;
-use number_sets::holds;
+use hands::{HandSet, hand_of};
 use pc_outside::NoMemory;
 use problem::{Problem, needed};
 use queue_pattern::Queue;
 use reach::Steps;
 use std::alloc::Global;
 use std::sync::ledger::Ledger;
-
-/// The game of a problem.
-fn game(problem: &Problem) -> Game
-    ensures { result ≡ game_of problem.now }
-{
-    Game {
-        rules: problem.rules,
-        drop_mode: problem.drop_mode,
-        hold: problem.hold,
-    }
-}
 
 /// The position at which the search begins.
 fn first_position(problem: &Problem) -> Position
@@ -65,25 +53,28 @@ fn room_for(hands: usize, left: u8) -> usize
 pub fn good_hands<L: Ledger>(
     alloc: Global,
     problem: &Problem,
-    hands: Vec<u64>,
+    hands: HandSet,
     steps: &mut Steps<L>,
-) -> Result<Vec<u64>, NoMemory>
-    requires fit { IsFit problem.now }
-    requires rises { IsRising hands.items }
-    ensures rises { IfOk result (λ v. IsRising v.items) }
-    ensures members { IfOk result (λ v. (hand : ℕ) → has v.items hand ≡ (has hands.items hand
+) -> Result<HandSet, NoMemory>
+    requires { IsFit problem.now }
+    ensures members { IfOk result (λ good. (hand : ℕ) → has good hand ≡ (has hands hand
         && is_good (game_of problem.now) (filled problem.now.well) problem.now.height (needed_of problem.now) hand)) }
     ensures counted { steps.old ≤ steps.new }
 {
     if problem.well.empties_below(problem.height) % 4 != 0 {
-        return Ok(Vec::new(alloc));
+        return Ok(HandSet::none(alloc));
     }
     let left = needed(problem);
-    let mut kept = Kept::new(alloc, game(problem), room_for(hands.len(), left));
+    let game = Game {
+        rules: problem.rules,
+        drop_mode: problem.drop_mode,
+        hold: problem.hold,
+    };
+    let mut kept = Kept::new(alloc, game, room_for(hands.len(), left));
     let position = first_position(problem);
-    let fit = fitting(alloc, &mut kept.fits, &position, left, hands.as_slice())?;
+    let fit = fitting(alloc, &mut kept.fits, &position, left, &hands)?;
     drop(hands);
-    answered_first(alloc, &mut kept, &position, left, fit.as_slice(), steps)
+    answered_first(alloc, &mut kept, &position, left, &fit, steps)
 }
 
 /// The hand of the queue with this number, counted from 0.
@@ -109,6 +100,8 @@ pub fn solvable<L: Ledger>(
     ensures counted { steps.old ≤ steps.new }
 {
     let hand = hand_of(problem.hold, problem.held, needed(problem), queue);
-    let good = good_hands(alloc, problem, Vec::from_slice(alloc, &[hand])?, steps)?;
-    Ok(holds(good.as_slice(), hand))
+    let mut hands = HandSet::none(alloc);
+    hands.insert(hand)?;
+    let good = good_hands(alloc, problem, hands, steps)?;
+    Ok(good.has(hand))
 }

@@ -8,11 +8,11 @@ mod counts;
 #[cfg(test)]
 mod dead_questions;
 #[cfg(test)]
+mod hand_sets;
+#[cfg(test)]
 mod listed_tilings;
 #[cfg(test)]
 mod moves_and_keys;
-#[cfg(test)]
-mod numbers;
 #[cfg(test)]
 mod numbers_of_placements;
 #[cfg(test)]

@@ -1,21 +1,19 @@
 -- Each answer is made of lists whose contracts say what they have.
-use Rattle.std.proofs.Common.{◌≡◌, ◌<◌, ℕ, ◌+◌, ◌-◌, ◌==◌, ◌&&◌, ◌||◌, All, Bool, not, List, length, get_or, true, refl, ap, subst, ◌∙◌, sym, arith}
-use Rattle.std.specs.Prelude.{vec_len, IsPermutation, Option, Some, IfSome}
+use Rattle.std.proofs.Common.{◌≡◌, ◌<◌, ℕ, ◌+◌, ◌-◌, ◌&&◌, ◌||◌, All, Bool, not, List, length, get_or, true, ap, subst, ◌∙◌, sym, arith}
+use Rattle.std.specs.Prelude.{IsPermutation, Option, Some, IfSome}
 use Rattle.srs.specs.declared.piece.Piece.{Piece}
 use Rattle.srs.specs.Piece.{all_pieces}
-use Rattle.std.proofs.lemmas.Bool.Decides.{nat_tests}
-use Rattle.std.proofs.lemmas.List.{nil_from_length}
 use Rattle.std.proofs.lemmas.List.Sorted.{length_permutation}
 use Rattle.well.specs.Well.{filled}
-use Rattle.number_sets.specs.Rising.{has}
-use Rattle.number_sets.proofs.CallerLemmas.{has-none}
+use Rattle.hands.specs.declared.hand_set.HandSet.{HandSet}
+use Rattle.hands.specs.HandSets.{has, in_order}
 use Rattle.percent.specs.declared.position.Child.{Child}
 use Rattle.percent.specs.declared.game.Game.{Game}
 use Rattle.percent.specs.Children.{IsChild}
 use Rattle.percent.specs.Marks.{AreIndexes, IsStanding}
 use Rattle.percent.specs.GoodHands.{is_good, is_good_after, is_good_at}
 use Rattle.std.proofs.lemmas.Result.{IfOk-weaker}
-use Rattle.percent.proofs.GoodSteps.{good-ends, answer-kept, answer-known, answers-at, explore-open, explore-step, found-good, open-bad, try-all, try-ends, try-step, try-starts}
+use Rattle.percent.proofs.GoodSteps.{answer-found, answer-known, answers-at, explore-open, explore-step, found-good, good-ends, none-of, open-bad, try-all, try-ends, try-starts, try-step}
 use Rattle.percent.proofs.answered.+search.Goals as goal
 
 -- what holds of a value that may be there holds of the one that is
@@ -26,63 +24,50 @@ pub answered-returns-then-left-eq0-clause-members : goal.answered-returns-then-l
 answered-returns-then-left-eq0-clause-members g t c =
     let p = c.args.child.now.position in
     IfOk-weaker c.answered_at_end.result _ _ (λ v h hand. h hand ∙ ap (λ b. has c.args.hands.now hand && b) (sym (good-ends c.args.kept.now.game (filled p.well) p.rows c.args.left hand c.if-left-eq0.true)))
-    c.answered_at_end.ensures.members
+    c.answered_at_end.ensures
 
 pub answered-returns-then-is_empty-clause-members : goal.answered-returns-then-is_empty-clause-members
 answered-returns-then-is_empty-clause-members g t c = λ hand.
     let p = c.args.child.now.position in
-    let none : (length c.args.hands.now == 0) ≡ true = sym c.is_empty.ensures ∙ c.if-is_empty.true in
-    let short : length c.args.hands.now ≡ 0 = grind (arith, nat_tests) in
-    let nil = nil_from_length c.args.hands.now short in
-    rw c.new.ensures.items
-    (has-none hand ∙ sym (ap (λ b. b && is_good c.args.kept.now.game (filled p.well) p.rows c.args.left hand) (ap (λ l. has l hand) nil ∙ has-none hand)))
+    c.none.ensures hand ∙ none-of c.args.hands.now (is_good c.args.kept.now.game (filled p.well) p.rows c.args.left) hand (c.is_empty.ensures.0 c.if-is_empty.true hand)
 
 pub answered-returns-then-is_empty-2-clause-members : goal.answered-returns-then-is_empty-2-clause-members
 answered-returns-then-is_empty-2-clause-members g t c =
     let p = c.args.child.now.position in
     let good : ℕ → Bool = is_good c.args.kept.now.game (filled p.well) p.rows c.args.left in
-    let none : (vec_len c.in-Some.unknown == 0) ≡ true = sym c.is_empty-2.ensures ∙ c.if-is_empty-2.true in
-    let short : length c.in-Some.unknown.items ≡ 0 = grind (arith, nat_tests) in
-    let nil = nil_from_length c.in-Some.unknown.items short in
-    answer-known c.in-Some.known.items c.in-Some.unknown.items c.args.hands.now good
+    answer-known c.in-Some.known c.in-Some.unknown c.args.hands.now good
     (some-holds c.in_ok-known.field-0 (c.in-Some.known, c.in-Some.unknown) c.in-Some.is
-    (λ v. (hand : ℕ) → (has v.0.items hand || (has v.1.items hand && good hand)) ≡ (has c.args.hands.now hand && good hand)) c.in_ok-known.ensures.members)
-    (λ hand. ap (λ l. has l hand) nil ∙ has-none hand)
+    (λ v. (hand : ℕ) → (has v.0 hand || (has v.1 hand && good hand)) ≡ (has c.args.hands.now hand && good hand)) c.in_ok-known.ensures)
+    (c.is_empty-2.ensures.0 c.if-is_empty-2.true)
 
 pub answered-returns-then-is_empty-3-clause-members : goal.answered-returns-then-is_empty-3-clause-members
-answered-returns-then-is_empty-3-clause-members g t c = λ hand.
+answered-returns-then-is_empty-3-clause-members g t c =
     let p = c.args.child.now.position in
     let good : ℕ → Bool = is_good c.args.kept.now.game (filled p.well) p.rows c.args.left in
-    let none : (vec_len c.in-Some.known == 0) ≡ true = sym c.is_empty-3.ensures ∙ c.if-is_empty-3.true in
-    let short : length c.in-Some.known.items ≡ 0 = grind (arith, nat_tests) in
-    let nil = nil_from_length c.in-Some.known.items short in
-    c.in_ok-found.ensures.members hand
-    ∙ ap (λ l. has l hand && good hand) c.as_slice.ensures.value
-    ∙ ap (λ b. b || (has c.in-Some.unknown.items hand && good hand)) (sym (ap (λ l. has l hand) nil ∙ has-none hand))
-    ∙ (some-holds c.in_ok-known.field-0 (c.in-Some.known, c.in-Some.unknown) c.in-Some.is
-    (λ v. (hand : ℕ) → (has v.0.items hand || (has v.1.items hand && good hand)) ≡ (has c.args.hands.now hand && good hand)) c.in_ok-known.ensures.members) hand
+    answer-found c.in-Some.known c.in-Some.unknown c.in_ok-found.found c.args.hands.now good
+    (some-holds c.in_ok-known.field-0 (c.in-Some.known, c.in-Some.unknown) c.in-Some.is
+    (λ v. (hand : ℕ) → (has v.0 hand || (has v.1 hand && good hand)) ≡ (has c.args.hands.now hand && good hand)) c.in_ok-known.ensures)
+    (c.is_empty-3.ensures.0 c.if-is_empty-3.true) c.in_ok-found.ensures.members
 
 pub searched-keep-requires-clause-found_true : goal.searched-keep-requires-clause-found_true
 searched-keep-requires-clause-found_true g t c = λ hand there.
     let p = c.args.child.now.position in
-    let answers = answers-at c.args.kept.now.game c.marks_after-below.result.position p (c.args.left - 1 + 1) c.args.left c.args.hands.now c.in_ok-good.good.items c.in_ok-good.bad.items
+    let answers = answers-at c.args.kept.now.game c.marks_after-below.result.position p (c.args.left - 1 + 1) c.args.left c.args.hands.now c.in_ok-good.good c.in_ok-good.bad
     c.marks_after-below.ensures (omega (arith, c.requires.some)) c.in_ok-good.ensures.answers in
     ap (λ (game : Game). is_good game (filled p.well) p.rows c.args.left hand) c.in_ok-good.ensures.game
-    ∙ found-good c.in_ok-good.good.items c.args.hands.now (is_good c.args.kept.now.game (filled p.well) p.rows c.args.left) answers.goods hand
-    (sym (ap (λ l. has l hand) c.as_slice.ensures.value) ∙ there)
+    ∙ found-good c.in_ok-good.good c.args.hands.now (is_good c.args.kept.now.game (filled p.well) p.rows c.args.left) answers.goods hand there
 
 pub searched-keep-requires-clause-missed_true : goal.searched-keep-requires-clause-missed_true
 searched-keep-requires-clause-missed_true g t c = λ hand there.
     let p = c.args.child.now.position in
-    let answers = answers-at c.args.kept.now.game c.marks_after-below.result.position p (c.args.left - 1 + 1) c.args.left c.args.hands.now c.in_ok-good.good.items c.in_ok-good.bad.items
+    let answers = answers-at c.args.kept.now.game c.marks_after-below.result.position p (c.args.left - 1 + 1) c.args.left c.args.hands.now c.in_ok-good.good c.in_ok-good.bad
     c.marks_after-below.ensures (omega (arith, c.requires.some)) c.in_ok-good.ensures.answers in
     ap (λ (game : Game). is_good game (filled p.well) p.rows c.args.left hand) c.in_ok-good.ensures.game
-    ∙ open-bad c.args.hands.now c.in_ok-good.bad.items (is_good c.args.kept.now.game (filled p.well) p.rows c.args.left) answers.bads hand
-    (sym (ap (λ l. has l hand) c.as_slice-2.ensures.value) ∙ there)
+    ∙ open-bad c.args.hands.now c.in_ok-good.bad (is_good c.args.kept.now.game (filled p.well) p.rows c.args.left) answers.bads hand there
 
 pub searched-returns-clause-members : goal.searched-returns-clause-members
 searched-returns-clause-members g t c =
-    (answers-at c.args.kept.now.game c.marks_after-below.result.position c.args.child.now.position (c.args.left - 1 + 1) c.args.left c.args.hands.now c.in_ok-good.good.items c.in_ok-good.bad.items
+    (answers-at c.args.kept.now.game c.marks_after-below.result.position c.args.child.now.position (c.args.left - 1 + 1) c.args.left c.args.hands.now c.in_ok-good.good c.in_ok-good.bad
     c.marks_after-below.ensures (omega (arith, c.requires.some)) c.in_ok-good.ensures.answers).goods
 
 seven : (order : List Piece) → IsPermutation all_pieces order → length order ≡ 7
@@ -91,37 +76,33 @@ seven order same = length_permutation all_pieces order same
 pub missed-loop-piece-preserved : goal.missed-loop-piece-preserved
 missed-loop-piece-preserved g t c =
     let p = c.args.marks.now.position in
-    explore-step c.wanted_first-order.result c.args.kept.now.game c.loop-piece.kept.game c.tried.new.kept.game (filled p.well) p.rows c.args.left c.args.hands.items
-    c.loop-piece.open.items c.as_slice-in-loop-piece.result.now c.loop-piece.open.items
-    c.in_ok-rests.rests.items c.as_slice-in-loop-piece-2.result.now c.in_ok-good.good.items c.as_slice-in-loop-piece-3.result.now c.in_ok-open.open.items
+    explore-step c.wanted_first-order.result c.args.kept.now.game c.loop-piece.kept.game c.tried.new.kept.game (filled p.well) p.rows c.args.left c.args.hands
+    c.loop-piece.open c.in_ok-rests.rests c.in_ok-good.good c.in_ok-open.open
     c.args.steps.now c.loop-piece.steps c.tried.new.steps c.loop-piece.piece-index _
     c.loop-piece.invariant (omega (arith, seven c.wanted_first-order.result c.wanted_first-order.ensures, c.loop-piece-test.true))
-    c.as_slice-in-loop-piece.ensures.value c.in_ok-rests.ensures.members
-    c.as_slice-in-loop-piece-2.ensures.value c.in_ok-good.ensures.members
-    c.in_ok-good.ensures.game c.in_ok-good.ensures.counted
-    c.in_ok-open.ensures.rises refl c.as_slice-in-loop-piece-3.ensures.value c.in_ok-open.ensures.members
+    c.in_ok-rests.ensures c.in_ok-good.ensures.members c.in_ok-good.ensures.game c.in_ok-good.ensures.counted c.in_ok-open.ensures
 
 pub missed-returns-clause-members : goal.missed-returns-clause-members
 missed-returns-clause-members g t c = λ hand.
     let p = c.args.marks.now.position in
     let order = c.wanted_first-order.result in
-    explore-open order c.args.kept.now.game c.loop-piece.kept.game (filled p.well) p.rows c.args.left c.args.hands.items c.loop-piece.open.items c.args.steps.now c.loop-piece.steps c.loop-piece.piece-index
+    explore-open order c.args.kept.now.game c.loop-piece.kept.game (filled p.well) p.rows c.args.left c.args.hands c.loop-piece.open c.args.steps.now c.loop-piece.steps c.loop-piece.piece-index
     c.wanted_first-order.ensures c.loop-piece.invariant (omega (arith, seven order c.wanted_first-order.ensures, c.loop-piece-test.false)) hand
-    ∙ ap (λ (game : Game). has c.args.hands.items hand && not (is_good game (filled p.well) p.rows (c.args.left + 1) hand)) c.loop-piece.invariant.same
+    ∙ ap (λ (game : Game). has c.args.hands hand && not (is_good game (filled p.well) p.rows (c.args.left + 1) hand)) c.loop-piece.invariant.same
 
 pub tried-returns-then-is_empty-clause-members : goal.tried-returns-then-is_empty-clause-members
 tried-returns-then-is_empty-clause-members g t c = λ rest.
     let p = c.args.marks.now.position in
-    let none : (length c.args.rests.now == 0) ≡ true = sym c.is_empty.ensures ∙ c.if-is_empty.true in
-    let short : length c.args.rests.now ≡ 0 = grind (arith, nat_tests) in
-    let nil = nil_from_length c.args.rests.now short in
-    rw c.new.ensures.items
-    (has-none rest ∙ sym (ap (λ b. b && is_good_after c.args.kept.now.game (filled p.well) p.rows c.args.piece c.args.left rest) (ap (λ l. has l rest) nil ∙ has-none rest)))
+    c.none.ensures rest ∙ none-of c.args.rests.now (is_good_after c.args.kept.now.game (filled p.well) p.rows c.args.piece c.args.left) rest (c.is_empty.ensures.0 c.if-is_empty.true rest)
+
+-- all rests are asked about at first
+all-asked : (asked all rests : HandSet) → asked ≡ all → ((rest : ℕ) → has all rest ≡ has rests rest) → (rest : ℕ) → has asked rest ≡ has rests rest
+all-asked asked all rests same copied rest = ap (λ (hands : HandSet). has hands rest) same ∙ copied rest
 
 pub tried-loop-child-init : goal.tried-loop-child-init
 tried-loop-child-init g t c = (
-  try-starts c.args.kept.now.game c.args.left c.deref-child-items.result.now c.args.rests.now c.in_ok-asked.asked.rests.items c.args.steps.now c.children.new.steps
-      (c.in_ok-asked.ensures.rests ∙ c.in_ok-all.ensures.items) c.requires.rises (omega (arith, c.in_ok-children.ensures.counted)),
+  try-starts c.args.kept.now.game c.args.left c.deref-child-items.result.now c.args.rests.now c.in_ok-asked.asked.rests c.args.steps.now c.children.new.steps
+      (all-asked c.in_ok-asked.asked.rests c.in_ok-all.all c.args.rests.now c.in_ok-asked.ensures.rests c.in_ok-all.ensures) (omega (arith, c.in_ok-children.ensures.counted)),
   c.in_ok-asked.ensures.indexes,
 )
 
@@ -147,46 +128,46 @@ tried-fitting_after-requires-clause-indexes g t c =
     let p = c.args.marks.now.position in
     let is = holds_of (IsChild (filled p.well) p.rows c.args.piece) c.in_ok-children.children.items c.deref-child-items.result.now c.loop-child.child-index c.child-item.result
     c.deref-child-items.ensures.value c.in_ok-children.ensures.after c.loop-child-test.true c.child-item.is in
-    subst (λ piece. AreIndexes c.args.marks.now.known.items piece c.args.left c.loop-child.asked.rests.items c.loop-child.asked.indexes.items) (sym is.kind) c.loop-child.invariant.1
+    subst (λ piece. AreIndexes c.args.marks.now.known.items piece c.args.left (in_order c.loop-child.asked.rests) c.loop-child.asked.indexes.items) (sym is.kind) c.loop-child.invariant.1
 
 pub tried-loop-child-preserved : goal.tried-loop-child-preserved
 tried-loop-child-preserved g t c = (
   try-step c.args.kept.now.game c.loop-child.kept.game c.answered.new.kept.game c.args.left c.deref-child-items.result.now c.args.rests.now
-      c.loop-child.asked.rests.items c.loop-child.asked.rests.items c.loop-child.asked.rests.items c.in_ok-good.good.items c.as_slice-in-loop-child.result.now c.in_ok-asked-2.asked.rests.items
+      c.loop-child.asked.rests c.in_ok-good.good c.in_ok-asked-2.asked.rests
       c.args.steps.now c.loop-child.steps c.answered.new.steps c.loop-child.child-index c.child-item.result
       c.loop-child.invariant.0 c.loop-child-test.true (sym c.child-item.is)
-      refl
-      (λ rest.
-      c.in_ok-good.ensures.members rest
-      ∙ answer-kept c.in_ok-fit.fit.items c.as_slice.result.now c.loop-child.asked.rests.items
-      (is_good c.loop-child.kept.game (filled c.child-item.result.position.well) c.child-item.result.position.rows c.args.left)
-      c.as_slice.ensures.value (c.in_ok-fit.ensures.members c.loop-child.kept.game) rest)
-      c.in_ok-good.ensures.game c.in_ok-good.ensures.counted
-      c.in_ok-asked-2.ensures.rises refl c.as_slice-in-loop-child.ensures.value c.in_ok-asked-2.ensures.members,
+      (λ rest. c.in_ok-good.ensures.members rest ∙ c.in_ok-fit.ensures c.loop-child.kept.game rest)
+      c.in_ok-good.ensures.game c.in_ok-good.ensures.counted c.in_ok-asked-2.ensures.members,
   c.in_ok-asked-2.ensures.indexes,
 )
 
+-- what is said of the rests asked about at first is said of all
+children-are : (children items : List Child) (asked rests : HandSet) (good : ℕ → Bool) (game : Game) (left : ℕ) → items ≡ children → ((rest : ℕ) → has asked rest ≡ has rests rest)
+    → ((rest : ℕ) → has asked rest ≡ true → is_good_at game children left rest ≡ good rest)
+    → (rest : ℕ) → has rests rest ≡ true → is_good_at game items left rest ≡ good rest
+children-are children items asked rests good game left same all are rest there = ap (λ l. is_good_at game l left rest) same ∙ are rest (all rest ∙ there)
+
 pub tried-returns-then-is_empty-2-clause-members : goal.tried-returns-then-is_empty-2-clause-members
-tried-returns-then-is_empty-2-clause-members g t c = λ rest.
+tried-returns-then-is_empty-2-clause-members g t c =
     let p = c.args.marks.now.position in
-    let all = c.in_ok-asked.ensures.rests ∙ c.in_ok-all.ensures.items in
-    let none : (vec_len c.loop-child.asked.rests == 0) ≡ true = sym c.is_empty-in-loop-child.ensures ∙ c.if-is_empty-2.true in
-    let short : length c.loop-child.asked.rests.items ≡ 0 = grind (arith, nat_tests) in
-    ap (λ l. has l rest) c.in_ok-from_slice.ensures.items
-    ∙ try-all c.args.kept.now.game c.loop-child.kept.game (filled p.well) p.rows c.args.piece c.args.left c.deref-child-items.result.now c.args.rests.now c.loop-child.asked.rests.items
-    c.args.steps.now c.loop-child.steps c.loop-child.child-index c.loop-child.invariant.0 (nil_from_length c.loop-child.asked.rests.items short)
-    (subst (λ l. (rest : ℕ) → has c.args.rests.now rest ≡ true → is_good_at c.args.kept.now.game l c.args.left rest ≡ is_good_after c.args.kept.now.game (filled p.well) p.rows c.args.piece c.args.left rest) (sym c.deref-child-items.ensures.value)
-    (subst (λ l. (rest : ℕ) → has l rest ≡ true → is_good_at c.args.kept.now.game c.in_ok-children.children.items c.args.left rest ≡ is_good_after c.args.kept.now.game (filled p.well) p.rows c.args.piece c.args.left rest) all c.in_ok-children.ensures.good))
-    rest
+    let all = all-asked c.in_ok-asked.asked.rests c.in_ok-all.all c.args.rests.now c.in_ok-asked.ensures.rests c.in_ok-all.ensures in
+    IfOk-weaker c.copied-then-is_empty-2.result _ _
+    (λ v h rest. h rest
+    ∙ try-all c.args.kept.now.game c.loop-child.kept.game (filled p.well) p.rows c.args.piece c.args.left c.deref-child-items.result.now c.args.rests.now c.loop-child.asked.rests
+    c.args.steps.now c.loop-child.steps c.loop-child.child-index c.loop-child.invariant.0 (c.is_empty-in-loop-child.ensures.0 c.if-is_empty-2.true)
+    (children-are c.in_ok-children.children.items c.deref-child-items.result.now c.in_ok-asked.asked.rests c.args.rests.now (is_good_after c.args.kept.now.game (filled p.well) p.rows c.args.piece c.args.left)
+    c.args.kept.now.game c.args.left c.deref-child-items.ensures.value all c.in_ok-children.ensures.good)
+    rest)
+    c.copied-then-is_empty-2.ensures
 
 pub tried-returns-clause-members : goal.tried-returns-clause-members
 tried-returns-clause-members g t c =
     let p = c.args.marks.now.position in
-    let all = c.in_ok-asked.ensures.rests ∙ c.in_ok-all.ensures.items in
+    let all = all-asked c.in_ok-asked.asked.rests c.in_ok-all.all c.args.rests.now c.in_ok-asked.ensures.rests c.in_ok-all.ensures in
     IfOk-weaker c.without.result _ _
-    (λ v h. try-ends c.args.kept.now.game c.loop-child.kept.game (filled p.well) p.rows c.args.piece c.args.left c.deref-child-items.result.now c.args.rests.now c.loop-child.asked.rests.items v.items
+    (λ v h. try-ends c.args.kept.now.game c.loop-child.kept.game (filled p.well) p.rows c.args.piece c.args.left c.deref-child-items.result.now c.args.rests.now c.loop-child.asked.rests v
     c.args.steps.now c.loop-child.steps c.loop-child.child-index c.loop-child.invariant.0 c.loop-child-test.false
-    (subst (λ l. (rest : ℕ) → has c.args.rests.now rest ≡ true → is_good_at c.args.kept.now.game l c.args.left rest ≡ is_good_after c.args.kept.now.game (filled p.well) p.rows c.args.piece c.args.left rest) (sym c.deref-child-items.ensures.value)
-    (subst (λ l. (rest : ℕ) → has l rest ≡ true → is_good_at c.args.kept.now.game c.in_ok-children.children.items c.args.left rest ≡ is_good_after c.args.kept.now.game (filled p.well) p.rows c.args.piece c.args.left rest) all c.in_ok-children.ensures.good))
-    (λ rest. h rest ∙ ap (λ l. has c.args.rests.now rest && not (has l rest)) c.as_slice-2.ensures.value))
-    c.without.ensures.members
+    (children-are c.in_ok-children.children.items c.deref-child-items.result.now c.in_ok-asked.asked.rests c.args.rests.now (is_good_after c.args.kept.now.game (filled p.well) p.rows c.args.piece c.args.left)
+    c.args.kept.now.game c.args.left c.deref-child-items.ensures.value all c.in_ok-children.ensures.good)
+    h)
+    c.without.ensures

@@ -1,4 +1,5 @@
 use Rattle.std.proofs.Common.{◌+◌, ◌*◌}
+use Rattle.hands.specs.HandSets.{in_order}
 use Rattle.well.specs.Well.{filled}
 use Rattle.percent.specs.Marks.{AreIndexes}
 use Rattle.percent.proofs.GoodSteps.{Exploring, Trying}
@@ -21,9 +22,9 @@ decreases-tried g l = 5 * l.left + 2
 
 abbrev pub invariant-missed-loop-piece : goal.invariant-missed-loop-piece
 invariant-missed-loop-piece g l =
-    Exploring l.piece-items l.fn.kept.game l.kept.game (filled l.marks.position.well) l.marks.position.rows l.left l.fn.hands.items l.open.items l.fn.steps l.steps l.piece-index
+    Exploring l.piece-items l.fn.kept.game l.kept.game (filled l.marks.position.well) l.marks.position.rows l.left l.fn.hands l.open l.fn.steps l.steps l.piece-index
 
 abbrev pub invariant-tried-loop-child : goal.invariant-tried-loop-child
 invariant-tried-loop-child g l =
-    Trying l.fn.kept.game l.kept.game l.left l.child-items l.rests l.asked.rests.items l.fn.steps l.steps l.child-index
-    × AreIndexes l.marks.known.items l.piece l.left l.asked.rests.items l.asked.indexes.items
+    Trying l.fn.kept.game l.kept.game l.left l.child-items l.rests l.asked.rests l.fn.steps l.steps l.child-index
+    × AreIndexes l.marks.known.items l.piece l.left (in_order l.asked.rests) l.asked.indexes.items

@@ -1,5 +1,6 @@
+use Rattle.hands.specs.Rising.{has_number}
 use Rattle.percent.specs.GoodHands.{HasHandsBefore}
 use Rattle.percent.proofs.answers.hands_of.Given as goal
 
 abbrev pub invariant-loop-number : goal.invariant-loop-number
-invariant-loop-number l = HasHandsBefore l.problem l.hands.items l.number
+invariant-loop-number l = HasHandsBefore l.problem (has_number l.hands.items) l.number

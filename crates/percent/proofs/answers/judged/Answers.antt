@@ -17,4 +17,4 @@ pub returns : goal.returns
 returns c = subst (AreAnswers c.args.problem.now c.loop-number.answers.items) (omega (arith, c.loop-number-test.false, c.loop-number.auto.number-end, c.count-count.ensures.number)) c.loop-number.invariant
 
 pub all_good-requires-clause-each : goal.all_good-requires-clause-each
-all_good-requires-clause-each c = c.requires.whole (omega (arith, c.if-good-all.true))
+all_good-requires-clause-each c = c.requires.whole (omega (arith, c.len.ensures.value, c.if-len-all.true))

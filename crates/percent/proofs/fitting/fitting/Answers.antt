@@ -5,17 +5,17 @@ use Rattle.srs.specs.declared.piece.Piece.TheVariants.{I, L, O, Z, T, J, S}
 use Rattle.well.specs.Well.{filled}
 use Rattle.prune.specs.Tiling.{supply_in}
 use Rattle.percent.specs.GoodHands.{is_good}
-use Rattle.percent.proofs.FittingLemmas.{none-kept, refused, sift-ends, sift-pass, sift-push, unfit}
+use Rattle.percent.proofs.FittingLemmas.{none-kept, refused, sift-ends, sift-pass, sift-push, sift-starts, unfit}
 use Rattle.percent.proofs.fitting.fitting.Goals as goal
-use Rattle.percent.proofs.fitting.fitting.Goals.{then-may_fit+in_ok-push, else-may_fit}
+use Rattle.percent.proofs.fitting.fitting.Goals.{then-may_fit+in_ok-insert, else-may_fit}
 
-pub returns-then-cheap_no-clause-members : goal.returns-then-cheap_no-clause-members
+pub returns-then-cheap_no : goal.returns-then-cheap_no
 unfolding supply_in
-returns-then-cheap_no-clause-members c = λ game.
+returns-then-cheap_no c = λ game.
     let p = c.args.position.now in
-    none-kept c.new-v.result.items c.args.hands.now (is_good game (filled p.well) p.rows c.args.left)
-    (λ hand _. refused game p c.args.left hand (c.args.left + 1) _ refl (omega (arith, c.requires.few)) many (c.cheap_no.ensures.none c.if-cheap_no.true))
-    c.new-v.ensures.items
+    none-kept c.none-fit.result c.args.hands.now (is_good game (filled p.well) p.rows c.args.left)
+    (λ hand _. refused game p c.args.left hand (c.args.left + 1) _ refl (omega (arith, c.requires)) many (c.cheap_no.ensures.none c.if-cheap_no.true))
+    c.none-fit.ensures
   where
     many : (piece : Piece) → 21 ≤ supply_in (255 ∷ 255 ∷ 255 ∷ 255 ∷ 255 ∷ 255 ∷ 255 ∷ []) piece
     many I = omega arith
@@ -26,32 +26,35 @@ returns-then-cheap_no-clause-members c = λ game.
     many J = omega arith
     many S = omega arith
 
-pub returns-then-not-may_fit-clause-members : goal.returns-then-not-may_fit-clause-members
-returns-then-not-may_fit-clause-members c = λ game.
+pub returns-then-not-may_fit : goal.returns-then-not-may_fit
+returns-then-not-may_fit c = λ game.
     let p = c.args.position.now in
-    none-kept c.new-v.result.items c.args.hands.now (is_good game (filled p.well) p.rows c.args.left)
+    none-kept c.none-fit.result c.args.hands.now (is_good game (filled p.well) p.rows c.args.left)
     (λ hand there. unfit game p c.below-cells.result c.greatest_counts.result c.args.left hand (c.args.left + 1) refl c.below-cells.ensures
     (c.greatest_counts.ensures hand there) (c.may_fit.ensures c.if-not-may_fit.true))
-    c.new-v.ensures.items
+    c.none-fit.ensures
+
+pub loop-hand-init : goal.loop-hand-init
+loop-hand-init c =
+    let p = c.args.position.now in
+    sift-starts (λ game. is_good game (filled p.well) p.rows c.args.left) c.numbers-hand-items.result.now c.none-fit.result c.none-fit.ensures
 
 pub loop-hand-preserved : goal.loop-hand-preserved
 loop-hand-preserved c =
     let p = c.args.position.now in
     elim c.if-may_fit.branch [
-      | then-may_fit+in_ok-push w ↦
-          rw (w.v-is, w.in_ok-push.ensures.items)
-          (sift-push (λ game. is_good game (filled p.well) p.rows c.args.left) c.args.hands.now c.loop-hand.v.items c.loop-hand.hand-index c.requires.rises c.loop-hand.invariant c.loop-hand-test.true)
+      | then-may_fit+in_ok-insert w ↦
+          rw w.fit-is
+          (sift-push (λ game. is_good game (filled p.well) p.rows c.args.left) c.numbers-hand-items.result.now c.loop-hand.fit _ c.loop-hand.hand-index c.loop-hand.invariant c.loop-hand-test.true w.in_ok-insert.ensures.inserted)
       | else-may_fit w ↦
-          rw w.v-is
-          (sift-pass (λ game. is_good game (filled p.well) p.rows c.args.left) c.args.hands.now c.loop-hand.v.items c.loop-hand.hand-index c.requires.rises c.loop-hand.invariant c.loop-hand-test.true
-          (λ game. unfit game p c.below-cells.result c.counts_of.result c.args.left (get_or c.args.hands.now c.loop-hand.hand-index 0) (c.args.left + 1) refl c.below-cells.ensures
+          rw w.fit-is
+          (sift-pass (λ game. is_good game (filled p.well) p.rows c.args.left) c.numbers-hand-items.result.now c.loop-hand.fit c.loop-hand.hand-index c.loop-hand.invariant c.loop-hand-test.true
+          (λ game. unfit game p c.below-cells.result c.counts_of.result c.args.left (get_or c.numbers-hand-items.result.now c.loop-hand.hand-index 0) (c.args.left + 1) refl c.below-cells.ensures
           (λ code few. let equal = c.counts_of.ensures code few in omega (arith, equal)) (c.may_fit-in-loop-hand.ensures w.if-may_fit.false)))
     ]
 
-pub returns-clause-rises : goal.returns-clause-rises
-returns-clause-rises c = c.loop-hand.invariant.rises
-
-pub returns-clause-members : goal.returns-clause-members
-returns-clause-members c =
+pub returns : goal.returns
+returns c =
     let p = c.args.position.now in
-    sift-ends (λ game. is_good game (filled p.well) p.rows c.args.left) c.args.hands.now c.loop-hand.v.items c.loop-hand.hand-index c.loop-hand-test.false c.loop-hand.invariant
+    sift-ends (λ game. is_good game (filled p.well) p.rows c.args.left) c.args.hands.now c.numbers-hand-items.result.now c.loop-hand.fit c.loop-hand.hand-index
+    c.numbers-hand-items.ensures.value c.loop-hand-test.false c.loop-hand.invariant

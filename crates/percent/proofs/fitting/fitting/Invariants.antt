@@ -4,4 +4,4 @@ use Rattle.percent.proofs.FittingLemmas.{Sifting}
 use Rattle.percent.proofs.fitting.fitting.Given as goal
 
 abbrev pub invariant-loop-hand : goal.invariant-loop-hand
-invariant-loop-hand l = Sifting (λ game. is_good game (filled l.position.well) l.position.rows l.left) l.hands l.v.items l.hand-index
+invariant-loop-hand l = Sifting (λ game. is_good game (filled l.position.well) l.position.rows l.left) l.hand-items l.fit l.hand-index

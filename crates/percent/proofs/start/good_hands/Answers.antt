@@ -1,17 +1,16 @@
 -- Where the empty cells are no multiple of four no hand is good.
 use Rattle.std.proofs.Common.{◌&&◌, ap, ◌∙◌, ◌%◌}
 use Rattle.well.specs.Well.{filled}
-use Rattle.number_sets.specs.Rising.{has}
+use Rattle.hands.specs.HandSets.{has}
 use Rattle.percent.specs.GoodHands.{is_good}
 use Rattle.percent.proofs.AnswerLemmas.{uneven-answer}
 use Rattle.std.proofs.lemmas.Result.{IfOk-weaker}
-use Rattle.percent.proofs.GoodSteps.{answer-kept}
 use Rattle.percent.proofs.start.good_hands.Goals as goal
 
 pub returns-then-empties_below-ne0-clause-members : goal.returns-then-empties_below-ne0-clause-members
 returns-then-empties_below-ne0-clause-members g c = λ hand.
-    rw c.new.ensures.items
-    (uneven-answer c.args.problem.now c.args.hands.items c.requires.fit (λ e. c.if-empties_below-ne0.true (ap (λ n. n % 4) c.empties_below.ensures ∙ e)) hand)
+    c.none.ensures hand
+    ∙ uneven-answer c.args.problem.now c.args.hands c.requires (λ e. c.if-empties_below-ne0.true (ap (λ n. n % 4) c.empties_below.ensures ∙ e)) hand
 
 pub returns-clause-members : goal.returns-clause-members
 returns-clause-members g c =
@@ -20,8 +19,7 @@ returns-clause-members g c =
     IfOk-weaker c.answered_first.result _ _
     (λ v h hand.
     h hand
-    ∙ answer-kept c.in_ok-fit.fit.items c.as_slice-2.result.now c.args.hands.items (is_good kept.game (filled p.well) p.rows c.needed-left.result) c.as_slice-2.ensures.value
-    (λ hand. c.in_ok-fit.ensures.members kept.game hand ∙ ap (λ l. has l hand && is_good kept.game (filled p.well) p.rows c.needed-left.result hand) c.as_slice.ensures.value) hand
-    ∙ (λ i. has c.args.hands.items hand
-    && is_good ((c.new-kept.ensures ∙ c.game.ensures) i) (filled (c.first_position-position.ensures.well i)) (c.first_position-position.ensures.rows i) (c.needed-left.ensures i) hand))
+    ∙ c.in_ok-fit.ensures kept.game hand
+    ∙ (λ i. has c.args.hands hand
+    && is_good (c.new-kept.ensures i) (filled (c.first_position-position.ensures.well i)) (c.first_position-position.ensures.rows i) (c.needed-left.ensures i) hand))
     c.answered_first.ensures.members

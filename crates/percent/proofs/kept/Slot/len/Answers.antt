@@ -5,4 +5,4 @@ use Rattle.percent.proofs.kept.Slot.len.Goals as goal
 
 pub returns : goal.returns
 unfolding answers_of
-returns c = grind (arith, c.len.ensures, c.len-2.ensures)
+returns c = grind (arith, c.len.ensures.value, c.len-2.ensures.value)

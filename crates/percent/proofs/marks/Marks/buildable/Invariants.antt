@@ -4,4 +4,4 @@ use Rattle.percent.proofs.FittingLemmas.{Sifting}
 use Rattle.percent.proofs.marks.Marks.buildable.Given as goal
 
 abbrev pub invariant-loop-index : goal.invariant-loop-index
-invariant-loop-index l = Sifting (λ _. is_good l.game (filled l.self.position.well) l.self.position.rows l.left) l.hands l.v.items l.index
+invariant-loop-index l = Sifting (λ _. is_good l.game (filled l.self.position.well) l.self.position.rows l.left) l.numbers l.likely l.index

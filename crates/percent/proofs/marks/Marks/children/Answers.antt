@@ -1,7 +1,7 @@
 -- The places come in order, and each that lies below the rows left is entered, or no rest is good after it.
 use Rattle.std.proofs.Common.{All, ◌≡◌, ℕ, true, subst, sym, ◌∙◌}
 use Rattle.std.specs.Prelude.{IfSome}
-use Rattle.number_sets.specs.Rising.{has}
+use Rattle.hands.specs.HandSets.{has}
 use Rattle.std.proofs.lemmas.List.Elements.{All-nil, All-push}
 use Rattle.std.proofs.lemmas.List.Sorted.{All-permutation}
 use Rattle.well.specs.Well.{filled}
@@ -14,7 +14,7 @@ use Rattle.percent.proofs.marks.Marks.children.Goals as goal
 pub loop-placement-init : goal.loop-placement-init
 loop-placement-init g c =
     let p = c.args.self.now.position in (
-      enter-starts c.args.kept.now.game _ (filled p.well) p.rows c.args.piece c.args.left c.args.asked.now.rests.items c.new-children.result.items c.places_below-places.result c.args.kept.now.floods c.new-children.ensures.items c.places_below-places.ensures.held,
+      enter-starts c.args.kept.now.game _ (filled p.well) p.rows c.args.piece c.args.left c.args.asked.now.rests c.new-children.result.items c.places_below-places.result c.args.kept.now.floods c.new-children.ensures.items c.places_below-places.ensures.held,
       subst (All (λ child. IsStanding c.args.self.now.known.items c.args.self.now.rows child.placement child.standing)) (sym c.new-children.ensures.items) (All-nil (λ child. IsStanding c.args.self.now.known.items c.args.self.now.rows child.placement child.standing)),
     )
 
@@ -22,46 +22,46 @@ pub is_worth-requires-clause-free : goal.is_worth-requires-clause-free
 is_worth-requires-clause-free g c =
     let p = c.args.self.now.position in
     low-free c.args.kept.now.game (filled p.well) p.rows c.args.piece c.in-Some.placement
-    (taken c.args.kept.now.game (filled p.well) p.rows c.args.piece c.args.left c.args.asked.now.rests.items c.loop-placement.children.items c.loop-placement.places c.take_least.new.self c.in-Some.placement c.loop-placement.invariant.0 c.in-Some.ensures.least c.in-Some.ensures.rest)
+    (taken c.args.kept.now.game (filled p.well) p.rows c.args.piece c.args.left c.args.asked.now.rests c.loop-placement.children.items c.loop-placement.places c.take_least.new.self c.in-Some.placement c.loop-placement.invariant.0 c.in-Some.ensures.least c.in-Some.ensures.rest)
 
 pub is_worth-requires-clause-below : goal.is_worth-requires-clause-below
 is_worth-requires-clause-below g c =
     let p = c.args.self.now.position in
-    (taken c.args.kept.now.game (filled p.well) p.rows c.args.piece c.args.left c.args.asked.now.rests.items c.loop-placement.children.items c.loop-placement.places c.take_least.new.self c.in-Some.placement c.loop-placement.invariant.0 c.in-Some.ensures.least c.in-Some.ensures.rest).below
+    (taken c.args.kept.now.game (filled p.well) p.rows c.args.piece c.args.left c.args.asked.now.rests c.loop-placement.children.items c.loop-placement.places c.take_least.new.self c.in-Some.placement c.loop-placement.invariant.0 c.in-Some.ensures.least c.in-Some.ensures.rest).below
 
 pub is_worth-requires-clause-wanted : goal.is_worth-requires-clause-wanted
 is_worth-requires-clause-wanted g c =
     let p = c.args.self.now.position in
-    let low = taken c.args.kept.now.game (filled p.well) p.rows c.args.piece c.args.left c.args.asked.now.rests.items c.loop-placement.children.items c.loop-placement.places c.take_least.new.self c.in-Some.placement c.loop-placement.invariant.0 c.in-Some.ensures.least c.in-Some.ensures.rest in
-    subst (λ piece. IfSome c.wanted-wanted.result (λ wanted. (rest : ℕ) → has c.args.asked.now.rests.items rest ≡ true → IsWanted c.args.self.now.known.items piece c.args.left rest wanted)) (sym low.kind) c.wanted-wanted.ensures
+    let low = taken c.args.kept.now.game (filled p.well) p.rows c.args.piece c.args.left c.args.asked.now.rests c.loop-placement.children.items c.loop-placement.places c.take_least.new.self c.in-Some.placement c.loop-placement.invariant.0 c.in-Some.ensures.least c.in-Some.ensures.rest in
+    subst (λ piece. IfSome c.wanted-wanted.result (λ wanted. (rest : ℕ) → has c.args.asked.now.rests rest ≡ true → IsWanted c.args.self.now.known.items piece c.args.left rest wanted)) (sym low.kind) c.wanted-wanted.ensures
 
 pub after-requires-clause-free : goal.after-requires-clause-free
 after-requires-clause-free g c =
     let p = c.args.self.now.position in
     low-free c.args.kept.now.game (filled p.well) p.rows c.args.piece c.in-Some.placement
-    (taken c.args.kept.now.game (filled p.well) p.rows c.args.piece c.args.left c.args.asked.now.rests.items c.loop-placement.children.items c.loop-placement.places c.take_least.new.self c.in-Some.placement c.loop-placement.invariant.0 c.in-Some.ensures.least c.in-Some.ensures.rest)
+    (taken c.args.kept.now.game (filled p.well) p.rows c.args.piece c.args.left c.args.asked.now.rests c.loop-placement.children.items c.loop-placement.places c.take_least.new.self c.in-Some.placement c.loop-placement.invariant.0 c.in-Some.ensures.least c.in-Some.ensures.rest)
 
 pub after-requires-clause-below : goal.after-requires-clause-below
 after-requires-clause-below g c =
     let p = c.args.self.now.position in
-    (taken c.args.kept.now.game (filled p.well) p.rows c.args.piece c.args.left c.args.asked.now.rests.items c.loop-placement.children.items c.loop-placement.places c.take_least.new.self c.in-Some.placement c.loop-placement.invariant.0 c.in-Some.ensures.least c.in-Some.ensures.rest).below
+    (taken c.args.kept.now.game (filled p.well) p.rows c.args.piece c.args.left c.args.asked.now.rests c.loop-placement.children.items c.loop-placement.places c.take_least.new.self c.in-Some.placement c.loop-placement.invariant.0 c.in-Some.ensures.least c.in-Some.ensures.rest).below
 
 pub loop-placement-smaller : goal.loop-placement-smaller
 loop-placement-smaller g c =
     let p = c.args.self.now.position in
-    taken-fewer c.args.kept.now.game (filled p.well) p.rows c.args.piece c.args.left c.args.asked.now.rests.items c.loop-placement.children.items c.loop-placement.places c.take_least.new.self c.in-Some.placement c.loop-placement.invariant.0 c.in-Some.ensures.least c.in-Some.ensures.rest
+    taken-fewer c.args.kept.now.game (filled p.well) p.rows c.args.piece c.args.left c.args.asked.now.rests c.loop-placement.children.items c.loop-placement.places c.take_least.new.self c.in-Some.placement c.loop-placement.invariant.0 c.in-Some.ensures.least c.in-Some.ensures.rest
 
 pub loop-placement-smaller-in-Continue-1 : goal.loop-placement-smaller-in-Continue-1
 loop-placement-smaller-in-Continue-1 g c =
     let p = c.args.self.now.position in
-    taken-fewer c.args.kept.now.game (filled p.well) p.rows c.args.piece c.args.left c.args.asked.now.rests.items c.loop-placement.children.items c.loop-placement.places c.take_least.new.self c.in-Some.placement c.loop-placement.invariant.0 c.in-Some.ensures.least c.in-Some.ensures.rest
+    taken-fewer c.args.kept.now.game (filled p.well) p.rows c.args.piece c.args.left c.args.asked.now.rests c.loop-placement.children.items c.loop-placement.places c.take_least.new.self c.in-Some.placement c.loop-placement.invariant.0 c.in-Some.ensures.least c.in-Some.ensures.rest
 
 pub loop-placement-preserved-in-Continue-1 : goal.loop-placement-preserved-in-Continue-1
 loop-placement-preserved-in-Continue-1 g c =
     let p = c.args.self.now.position in
-    let low = taken c.args.kept.now.game (filled p.well) p.rows c.args.piece c.args.left c.args.asked.now.rests.items c.loop-placement.children.items c.loop-placement.places c.take_least.new.self c.in-Some.placement c.loop-placement.invariant.0 c.in-Some.ensures.least c.in-Some.ensures.rest in (
-      subst (λ l. Entering c.args.kept.now.game (filled p.well) p.rows c.args.piece c.args.left c.args.asked.now.rests.items l c.take_least.new.self) (sym c.in_ok-push.ensures.items)
-          (enter-more c.args.kept.now.game (filled p.well) p.rows c.args.piece c.args.left c.args.asked.now.rests.items c.loop-placement.children.items c.loop-placement.places c.take_least.new.self c.in-Some.placement c.loop-placement.invariant.0 c.in-Some.ensures.least c.in-Some.ensures.rest
+    let low = taken c.args.kept.now.game (filled p.well) p.rows c.args.piece c.args.left c.args.asked.now.rests c.loop-placement.children.items c.loop-placement.places c.take_least.new.self c.in-Some.placement c.loop-placement.invariant.0 c.in-Some.ensures.least c.in-Some.ensures.rest in (
+      subst (λ l. Entering c.args.kept.now.game (filled p.well) p.rows c.args.piece c.args.left c.args.asked.now.rests l c.take_least.new.self) (sym c.in_ok-push.ensures.items)
+          (enter-more c.args.kept.now.game (filled p.well) p.rows c.args.piece c.args.left c.args.asked.now.rests c.loop-placement.children.items c.loop-placement.places c.take_least.new.self c.in-Some.placement c.loop-placement.invariant.0 c.in-Some.ensures.least c.in-Some.ensures.rest
           (record { placement = c.in-Some.placement; position = c.after.result; standing = c.standing-standing.result })
           (record { kind = low.kind; free = low-free c.args.kept.now.game (filled p.well) p.rows c.args.piece c.in-Some.placement low; below = low.below; field = c.after.ensures.field; left = c.after.ensures.rows })
           c.after.ensures.field c.after.ensures.rows),
@@ -72,7 +72,7 @@ loop-placement-preserved-in-Continue-1 g c =
 pub loop-placement-preserved : goal.loop-placement-preserved
 loop-placement-preserved g c =
     let p = c.args.self.now.position in (
-      enter-skip c.args.kept.now.game (filled p.well) p.rows c.args.piece c.args.left c.args.asked.now.rests.items c.loop-placement.children.items c.loop-placement.places c.take_least.new.self c.in-Some.placement c.loop-placement.invariant.0 c.in-Some.ensures.least c.in-Some.ensures.rest
+      enter-skip c.args.kept.now.game (filled p.well) p.rows c.args.piece c.args.left c.args.asked.now.rests c.loop-placement.children.items c.loop-placement.places c.take_least.new.self c.in-Some.placement c.loop-placement.invariant.0 c.in-Some.ensures.least c.in-Some.ensures.rest
           (c.is_worth.ensures c.if-is_worth.false c.args.kept.now.game),
       c.loop-placement.invariant.1,
     )
@@ -81,7 +81,7 @@ pub returns-clause-good : goal.returns-clause-good
 returns-clause-good g c = λ rest here.
     let p = c.args.self.now.position in
     in-any-order c.args.kept.now.game c.loop-placement.children.items c.sort_unstable_by_key.new.self.items c.args.left rest c.sort_unstable_by_key.ensures.permutation
-    ∙ enter-ends c.args.kept.now.game (filled p.well) p.rows c.args.piece c.args.left c.args.asked.now.rests.items c.loop-placement.children.items c.loop-placement.places c.loop-placement.invariant.0 c.in_default.ensures.least rest here
+    ∙ enter-ends c.args.kept.now.game (filled p.well) p.rows c.args.piece c.args.left c.args.asked.now.rests c.loop-placement.children.items c.loop-placement.places c.loop-placement.invariant.0 c.in_default.ensures.least rest here
 
 pub returns-clause-after : goal.returns-clause-after
 returns-clause-after g c =
@@ -96,9 +96,9 @@ pub taken-taken-requires-clause-free : goal.taken-taken-requires-clause-free
 taken-taken-requires-clause-free g c =
     let p = c.args.self.now.position in
     low-free c.args.kept.now.game (filled p.well) p.rows c.args.piece c.in-Some.placement
-    (taken c.args.kept.now.game (filled p.well) p.rows c.args.piece c.args.left c.args.asked.now.rests.items c.loop-placement.children.items c.loop-placement.places c.take_least.new.self c.in-Some.placement c.loop-placement.invariant.0 c.in-Some.ensures.least c.in-Some.ensures.rest)
+    (taken c.args.kept.now.game (filled p.well) p.rows c.args.piece c.args.left c.args.asked.now.rests c.loop-placement.children.items c.loop-placement.places c.take_least.new.self c.in-Some.placement c.loop-placement.invariant.0 c.in-Some.ensures.least c.in-Some.ensures.rest)
 
 pub taken-taken-requires-clause-below : goal.taken-taken-requires-clause-below
 taken-taken-requires-clause-below g c =
     let p = c.args.self.now.position in
-    (taken c.args.kept.now.game (filled p.well) p.rows c.args.piece c.args.left c.args.asked.now.rests.items c.loop-placement.children.items c.loop-placement.places c.take_least.new.self c.in-Some.placement c.loop-placement.invariant.0 c.in-Some.ensures.least c.in-Some.ensures.rest).below
+    (taken c.args.kept.now.game (filled p.well) p.rows c.args.piece c.args.left c.args.asked.now.rests c.loop-placement.children.items c.loop-placement.places c.take_least.new.self c.in-Some.placement c.loop-placement.invariant.0 c.in-Some.ensures.least c.in-Some.ensures.rest).below

@@ -7,7 +7,7 @@ use Rattle.percent.proofs.marks.Marks.children.Given as goal
 
 abbrev pub invariant-loop-placement : goal.invariant-loop-placement
 invariant-loop-placement g l =
-    Entering l.kept.game (filled l.position.well) l.position.rows l.fn.piece l.left l.fn.asked.rests.items l.children.items l.places
+    Entering l.kept.game (filled l.position.well) l.position.rows l.fn.piece l.left l.fn.asked.rests l.children.items l.places
     × All (λ child. IsStanding l.self.known.items l.self.rows child.placement child.standing) l.children.items
 
 abbrev pub decreases-loop-placement : goal.decreases-loop-placement

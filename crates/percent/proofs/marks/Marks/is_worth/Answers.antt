@@ -3,7 +3,7 @@ use Rattle.std.proofs.Common.{◌≡◌, ℕ, ◌==◌, true, bit_and, subst}
 use Rattle.std.specs.Prelude.{Option, IfSome}
 use Rattle.std.proofs.lemmas.Bool.{eqb-true, not-false}
 use Rattle.lane_board.specs.Field.{Field, difference}
-use Rattle.number_sets.specs.Rising.{has}
+use Rattle.hands.specs.HandSets.{has}
 use Rattle.prune.specs.Tiling.{Supply, Tiling}
 use Rattle.empty_cells.specs.Empties.{all_but, empty_cells}
 use Rattle.percent.specs.Wanted.{IsWanted}
@@ -13,7 +13,7 @@ use Rattle.percent.proofs.marks.Marks.is_worth.Goals as goal
 pub returns : goal.returns
 returns c = λ no game rest here.
     let marks = c.args.self.now in
-    let wanted = subst (λ (o : Option ℕ). IfSome o (λ wanted. (rest : ℕ) → has c.args.asked.now.rests.items rest ≡ true → IsWanted marks.known.items c.args.placement.now.piece c.args.left rest wanted)) c.in-Some.is c.requires.wanted in
+    let wanted = subst (λ (o : Option ℕ). IfSome o (λ wanted. (rest : ℕ) → has c.args.asked.now.rests rest ≡ true → IsWanted marks.known.items c.args.placement.now.piece c.args.left rest wanted)) c.in-Some.is c.requires.wanted in
     bad-wanted game marks.position marks.known.items marks.rows marks.cells c.args.placement.now c.args.left rest c.in-Some.wanted c.args.standing marks.spread marks.are_true c.requires.free c.requires.below
     (wanted rest here) c.requires.standing (eqb-true (bit_and c.args.standing c.in-Some.wanted) 0 (not-false (bit_and c.args.standing c.in-Some.wanted == 0) no))
 

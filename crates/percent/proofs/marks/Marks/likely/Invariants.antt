@@ -4,4 +4,4 @@ use Rattle.percent.proofs.FittingLemmas.{Sifting}
 use Rattle.percent.proofs.marks.Marks.likely.Given as goal
 
 abbrev pub invariant-loop-index : goal.invariant-loop-index
-invariant-loop-index l = Sifting (λ game. is_good game (filled l.child.position.well) l.child.position.rows l.left) l.rests l.v.items l.index
+invariant-loop-index l = Sifting (λ game. is_good game (filled l.child.position.well) l.child.position.rows l.left) l.rests l.likely l.index
