@@ -204,9 +204,8 @@ impl Lister {
     /// The same for those in which this piece covers the first cell.
     #[cycle(walk)]
     fn forms(&mut self, cover: &Cover, piece: Piece)
-        ensures { Adds self.old.listing self.new.listing
-            (StacksSome HasFirst (supply_of cover.now.supply) (shifted_cells cover.now.cells)
-            cover.now.cells.x cover.now.y piece)
+        ensures { Adds self.old.listing self.new.listing (StacksSome HasFirst (supply_of cover.now.supply)
+            (shifted_cells cover.now.cells) cover.now.cells.x cover.now.y piece)
             (GoesOn IsAny (with_one (supply_of cover.now.supply) piece) (shifted_cells cover.now.cells)) }
     {
         let cells = &cover.cells;
