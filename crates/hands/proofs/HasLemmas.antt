@@ -5,7 +5,11 @@ use Rattle.std.proofs.lemmas.List.Folds.{list_any-append, list_any_more, list_an
 use Rattle.std.proofs.lemmas.Bool.Decides.{nat_tests}
 use Rattle.std.proofs.lemmas.Grind.{common_steps}
 use Rattle.std.proofs.Math.Bool.{or-false}
-use Rattle.hands.specs.Rising.{IsRising, AllBelow, has_number}
+use Rattle.hands.specs.Rising.{IsRising, has_number}
+
+-- each number is below a bound
+abbrev pub AllBelow : List ℕ → ℕ → Type 0
+AllBelow xs bound = (i : ℕ) → i < length xs → get_or xs i 0 < bound
 
 pub has-append : (xs ys : List ℕ) (number : ℕ) → has_number (xs ++ ys) number ≡ (has_number xs number || has_number ys number)
 unfolding has_number

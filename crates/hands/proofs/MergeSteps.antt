@@ -3,8 +3,8 @@ use Rattle.std.proofs.Common.{ℕ, ◌≡◌, ◌+◌, ◌-◌, ◌<◌, ◌≤�
 use Rattle.std.proofs.lemmas.Bool.{cases_lt}
 use Rattle.std.proofs.lemmas.List.{take-append-drop, get_or-drop, length-drop, length-append, get_or_append_left, get_or-append_right}
 use Rattle.std.proofs.Math.Bool.{or_assoc, or_comm}
-use Rattle.hands.specs.Rising.{IsRising, AllBelow, has_number}
-use Rattle.hands.proofs.HasLemmas.{has-append, has-push, has-more, has-all, below-push, rising-push, below-more}
+use Rattle.hands.specs.Rising.{IsRising, has_number}
+use Rattle.hands.proofs.HasLemmas.{AllBelow, has-append, has-push, has-more, has-all, below-push, rising-push, below-more}
 
 -- v is merged from i numbers of a and j of b
 pub record Merging (a b v : List ℕ) (i j : ℕ) : Type 0 where

@@ -2,8 +2,8 @@
 use Rattle.std.proofs.Common.{ℕ, ◌≡◌, ◌+◌, ◌*◌, ◌/◌, ◌%◌, ◌<◌, ◌≤◌, Bool, true, false, ◌&&◌, ◌||◌, ◌==◌, List, [], ◌∷◌, ◌++◌, length, get_or, take, ap, ◌∙◌, sym, arith, inl, inr, rules}
 use Rattle.std.proofs.lemmas.Bool.{cases_lt}
 use Rattle.std.proofs.lemmas.Bool.Decides.{nat_tests}
-use Rattle.hands.specs.Rising.{IsRising, AllBelow, has_number}
-use Rattle.hands.proofs.HasLemmas.{has-absent, has-none, has-push, has-more, has-all, rising-none, rising-push, below-push, below-more}
+use Rattle.hands.specs.Rising.{IsRising, has_number}
+use Rattle.hands.proofs.HasLemmas.{AllBelow, has-absent, has-none, has-push, has-more, has-all, rising-none, rising-push, below-push, below-more}
 use Rattle.hands.specs.Hands.{with_first, with_second}
 
 -- putting a piece back keeps the order of what was left

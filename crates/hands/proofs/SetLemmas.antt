@@ -31,23 +31,17 @@ pub some-in : (hands : HandSet) → 0 < length (in_order hands) → has hands (g
 unfolding has
 some-in hands long = has-there (in_order hands) 0 (get_or (in_order hands) 0 0) long refl
 
-pub empty-if : (hands : HandSet) (result : Bool) → result ≡ (length (in_order hands) == 0) → IsTrue result ↔ ((hand : ℕ) → has hands hand ≡ false)
-empty-if hands result is = (
-  λ is_empty. none-in hands (let test : (length (in_order hands) == 0) ≡ true = sym is ∙ is_empty in grind (arith, nat_tests)),
-  λ none. elim (cases_Bool result) [
-    | inl full ↦ full
-    | inr long_list ↦
-        let test : (length (in_order hands) == 0) ≡ false = sym is ∙ long_list in
-        let long : 0 < length (in_order hands) = grind (arith, nat_tests) in
-        let there = some-in hands long in let apart = none (get_or (in_order hands) 0 0) in cc
-  ],
-)
-
 pub none-long : (hands : HandSet) → ((hand : ℕ) → has hands hand ≡ false) → length (in_order hands) ≡ 0
 none-long hands none = elim (cases_lt 0 (length (in_order hands))) [
   | inl long ↦ let there = some-in hands long in let apart = none (get_or (in_order hands) 0 0) in cc
   | inr short ↦ omega arith
 ]
+
+pub empty-if : (hands : HandSet) (result : Bool) → result ≡ (length (in_order hands) == 0) → IsTrue result ↔ ((hand : ℕ) → has hands hand ≡ false)
+empty-if hands result is = (
+  λ is_empty. none-in hands (let test : (length (in_order hands) == 0) ≡ true = sym is ∙ is_empty in grind (arith, nat_tests)),
+  λ none. let short = none-long hands none in is ∙ grind (arith, nat_tests),
+)
 
 pub none_second : (a b : Bool) → b ≡ false → a ≡ (a || b)
 none_second a b none = search rules

@@ -5,8 +5,8 @@ use Rattle.std.proofs.lemmas.Bool.Decides.{nat_tests}
 use Rattle.std.specs.List.Sorted.{IsSorted}
 use Rattle.std.specs.Ordering.{nat_cmp}
 use Rattle.std.proofs.lemmas.Map.Keys.{ge_from_not_lt}
-use Rattle.hands.specs.Rising.{IsRising, AllBelow, has_number}
-use Rattle.hands.proofs.HasLemmas.{has-push, has-more, has-all, has-there, below-push, rising-push}
+use Rattle.hands.specs.Rising.{IsRising, has_number}
+use Rattle.hands.proofs.HasLemmas.{AllBelow, has-push, has-more, has-all, has-there, below-push, rising-push}
 
 -- no number of a sorted list is above the next
 step : (xs : List ℕ) (i : ℕ) → IsSorted nat_cmp xs → i + 1 < length xs → get_or xs i 0 ≤ get_or xs (i + 1) 0

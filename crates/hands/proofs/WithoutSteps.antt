@@ -1,8 +1,8 @@
 -- The steps of a difference.
 use Rattle.std.proofs.Common.{ℕ, ◌≡◌, ◌+◌, ◌<◌, ◌≤◌, Bool, true, false, not, ◌&&◌, ◌||◌, ◌==◌, List, [], ◌∷◌, ◌++◌, length, get_or, take, refl, ap, ◌∙◌, sym, arith}
 use Rattle.std.proofs.lemmas.Bool.Decides.{nat_tests}
-use Rattle.hands.specs.Rising.{IsRising, AllBelow, has_number}
-use Rattle.hands.proofs.HasLemmas.{has-all, has-push, has-more, has-none, has-absent, has-there, rising-none, below-push, rising-push, below-more}
+use Rattle.hands.specs.Rising.{IsRising, has_number}
+use Rattle.hands.proofs.HasLemmas.{AllBelow, has-all, has-push, has-more, has-none, has-absent, has-there, rising-none, below-push, rising-push, below-more}
 
 -- v has those of the first i numbers of a that b has not, and the first j numbers of b are below the next one
 pub record Leaving (a b v : List ℕ) (i j : ℕ) : Type 0 where

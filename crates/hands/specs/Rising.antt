@@ -9,7 +9,3 @@ IsRising xs = (i j : ℕ) → i < j → j < length xs → slice_index xs i < sli
 -- whether a list has a number
 unfoldable pub has_number : List ℕ → ℕ → Bool
 has_number xs number = list_any (λ x. x == number) xs
-
--- each number is below a bound
-abbrev pub AllBelow : List ℕ → ℕ → Type 0
-AllBelow xs bound = (i : ℕ) → i < length xs → slice_index xs i < bound

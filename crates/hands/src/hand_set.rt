@@ -1,6 +1,7 @@
 // Sets of hands. Unions and differences take one pass over both sets.
 ghost use Rattle.hands.specs.Rising.{IsRising};
 
+use crate::lookup::holds;
 use pc_outside::NoMemory;
 use std::alloc::Global;
 
@@ -84,7 +85,7 @@ impl HandSet {
     pub fn has(&self, hand: u64) -> bool
         ensures { result ≡ has self.now hand }
     {
-        self.numbers.binary_search(&hand).is_ok()
+        holds(self.numbers(), hand)
     }
 
     /// One hand more, if it is another. It costs least if it is above all others.

@@ -42,8 +42,15 @@ fn are_above(numbers: &[u64], index: usize, number: u64) -> bool
     number < numbers[index]
 }
 
-/// Whether a rising list has a number, given the index at which it stands if it does. If it is another, the whole list
-/// is searched.
+/// Whether a rising list has a number.
+pub fn holds(numbers: &[u64], number: u64) -> bool
+    requires { IsRising numbers.now }
+    ensures { result ≡ has_number numbers.now number }
+{
+    numbers.binary_search(&number).is_ok()
+}
+
+/// The same, given the index at which it stands if it does. If it is another, the whole list is searched.
 pub fn holds_at(numbers: &[u64], index: usize, number: u64) -> bool
     requires { IsRising numbers.now }
     ensures { result ≡ has_number numbers.now number }
@@ -56,7 +63,7 @@ pub fn holds_at(numbers: &[u64], index: usize, number: u64) -> bool
             return false;
         }
     }
-    numbers.binary_search(&number).is_ok()
+    holds(numbers, number)
 }
 
 impl Starts {

@@ -23,7 +23,8 @@ use Rattle.hands.proofs.CallerLemmas.{has-all, has-in_order, has-more, has-none}
 use Rattle.problem.proofs.CallerLemmas.{IsLow}
 use Rattle.percent.specs.declared.game.Game.{Game}
 use Rattle.percent.specs.declared.position.Position.{Position}
-use Rattle.percent.specs.Fitting.{codes_in, supply_at, supply_by}
+use Rattle.percent.specs.Counts.{supply_by}
+use Rattle.percent.specs.Fitting.{codes_in, supply_at}
 use Rattle.percent.specs.GoodHands.{is_good}
 use Rattle.percent.proofs.TiledLemmas.{codes-few, good-tiled}
 

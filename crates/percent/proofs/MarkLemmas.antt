@@ -37,7 +37,8 @@ use Rattle.percent.specs.declared.marks.Mark.{Mark}
 use Rattle.percent.specs.declared.position.Child.{Child}
 use Rattle.percent.specs.declared.position.Position.{Position}
 use Rattle.percent.specs.Children.{IsChild}
-use Rattle.percent.specs.Fitting.{codes_in, codes_with, supply_at, supply_by}
+use Rattle.percent.specs.Counts.{codes_with, supply_by}
+use Rattle.percent.specs.Fitting.{codes_in, supply_at}
 use Rattle.percent.specs.GoodHands.{is_good}
 use Rattle.percent.specs.BuiltHands.{IsBuiltBy}
 use Rattle.percent.proofs.BuiltLemmas.{after, good-built, less-small, unbroken}

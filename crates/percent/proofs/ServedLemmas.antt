@@ -21,7 +21,8 @@ use Rattle.percent.specs.Weights.{AllowsTaken, code_at, first_weights, weight_of
 use Rattle.percent.specs.declared.game.Game.{Game}
 use Rattle.percent.specs.declared.marks.Mark.{Mark}
 use Rattle.percent.specs.declared.position.Position.{Position}
-use Rattle.percent.specs.Fitting.{codes_in, supply_at, supply_by}
+use Rattle.percent.specs.Counts.{supply_by}
+use Rattle.percent.specs.Fitting.{codes_in, supply_at}
 use Rattle.percent.specs.GoodHands.{is_good}
 use Rattle.percent.specs.Marks.{IsTrueMark}
 use Rattle.percent.specs.Spread.{IsSpread}

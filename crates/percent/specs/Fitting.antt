@@ -1,6 +1,5 @@
 -- How many pieces of each kind a hand has.
-use Rattle.std.specs.Prelude.{ℕ, zero, suc, ◌+◌, ◌/◌, ◌%◌, ◌==◌, if◌then◌else◌, List, slice_index}
-use Rattle.srs.specs.declared.piece.Piece.{Piece}
+use Rattle.std.specs.Prelude.{ℕ, zero, suc, ◌+◌, ◌/◌, ◌%◌, ◌==◌, if◌then◌else◌}
 use Rattle.srs.specs.Piece.{piece_code}
 use Rattle.prune.specs.Tiling.{Supply}
 
@@ -9,14 +8,6 @@ unfoldable pub codes_in : ℕ → ℕ → ℕ → ℕ
 codes_in zero hand code = 0
 codes_in (suc count) hand code = (if hand % 8 == code then 1 else 0) + codes_in count (hand / 8) code
 
--- the same with a piece more
-unfoldable pub codes_with : Piece → ℕ → ℕ → ℕ → ℕ
-codes_with piece count hand code = (if piece_code piece == code then 1 else 0) + codes_in count hand code
-
 -- the supply of the first so many pieces of a hand
 unfoldable pub supply_at : ℕ → ℕ → Supply
 supply_at count hand piece = codes_in count hand (piece_code piece)
-
--- the supply whose entries stand at the codes
-unfoldable pub supply_by : List ℕ → Supply
-supply_by counts piece = slice_index counts (piece_code piece)

@@ -7,6 +7,7 @@ pub mod BuiltHands
 -- What contracts cite beside these: views of values, and readings and tests, each with its law
 pub mod GoodHands
 -- What serves proofs alone
+pub mod Counts
 pub mod Weights
 pub mod Kept
 pub mod Children

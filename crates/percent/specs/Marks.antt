@@ -8,7 +8,7 @@ use Rattle.empty_cells.specs.SentCells.{sent_cells}
 use Rattle.tiled_pieces.specs.RowOrders.{ListsOrdered}
 use Rattle.tiled_pieces.specs.TilingLists.{SomeHas}
 use Rattle.percent.specs.declared.marks.Mark.{Mark}
-use Rattle.percent.specs.Fitting.{codes_with, supply_by}
+use Rattle.percent.specs.Counts.{codes_with, supply_by}
 
 -- Each tiling of the cells by so many pieces is listed, if its rows can go one before the other. As a fact without a
 -- choice of its own: it can't be refuted.

@@ -5,7 +5,8 @@ ghost use Rattle.well.specs.Well.{filled};
 ghost use Rattle.prune.specs.Tiling.{Tiling};
 ghost use Rattle.hands.specs.HandSets.{has};
 ghost use Rattle.percent.specs.declared.game.Game.{Game};
-ghost use Rattle.percent.specs.Fitting.{codes_in, supply_by};
+ghost use Rattle.percent.specs.Counts.{supply_by};
+ghost use Rattle.percent.specs.Fitting.{codes_in};
 ghost use Rattle.percent.specs.GoodHands.{is_good};
 
 use crate::position::{Position, hash_of};

@@ -11,7 +11,7 @@ ghost use Rattle.lane_board.specs.Lanes.{has_bit};
 ghost use Rattle.hands.specs.HandSets.{has, in_order};
 ghost use Rattle.percent.specs.declared.game.Game.{Game};
 ghost use Rattle.percent.specs.Children.{IsChild};
-ghost use Rattle.percent.specs.Fitting.{codes_with};
+ghost use Rattle.percent.specs.Counts.{codes_with};
 ghost use Rattle.percent.specs.GoodHands.{is_good};
 ghost use Rattle.percent.specs.Marks.{AreIndexes, HasMarkAt, IsMarkOf, IsStanding, IsTrueMark};
 ghost use Rattle.percent.specs.Spread.{IsSpread};

@@ -1,8 +1,7 @@
--- All numbers before the index are below the number, and the others above it, or the search tells.
-use Rattle.std.proofs.Common.{sym, ◌∙◌, arith}
+-- All numbers before the index are below the number, and the others above it.
+use Rattle.std.proofs.Common.{sym, arith}
 use Rattle.hands.proofs.HasLemmas.{has-there}
 use Rattle.hands.proofs.LookupLemmas.{between-absent}
-use Rattle.hands.proofs.SearchLemmas.{has-by_search}
 use Rattle.hands.proofs.lookup.holds_at.Goals as goal
 
 pub returns-then-are_above : goal.returns-then-are_above
@@ -10,6 +9,3 @@ returns-then-are_above c = sym (between-absent c.args.numbers.now c.args.index c
 
 pub returns-then-numbers-index : goal.returns-then-numbers-index
 returns-then-numbers-index c = sym (has-there c.args.numbers.now c.args.index c.args.number (omega (arith, c.if-index-numbers.true)) (c.if-numbers-index.true))
-
-pub returns : goal.returns
-returns c = c.is_ok.ensures.value ∙ has-by_search c.args.numbers.now c.args.number c.binary_search.result c.requires c.binary_search.ensures.position

@@ -5,7 +5,7 @@ use Rattle.std.proofs.lemmas.List.{get_or-set_other}
 use Rattle.std.proofs.lemmas.Grind.{get_or-set_at}
 use Rattle.srs.specs.Piece.{piece_code}
 use Rattle.srs.proofs.CallerLemmas.{piece_code-small}
-use Rattle.percent.specs.Fitting.{codes_with}
+use Rattle.percent.specs.Counts.{codes_with}
 use Rattle.percent.proofs.TiledLemmas.{codes-few}
 use Rattle.percent.proofs.marks.counts_with.Goals as goal
 
