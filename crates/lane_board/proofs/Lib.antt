@@ -3,6 +3,7 @@ mod CellTests
 mod Removal
 mod CellCounts
 mod RowBits
+mod LowestBits
 mod BoardRows
 mod EightRows
 mod RowTables

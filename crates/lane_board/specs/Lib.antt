@@ -7,3 +7,4 @@ pub mod Board
 pub mod Words
 -- What contracts cite beside these: views of values, parts, readings and tests
 pub mod Lanes
+pub mod LowestBit

@@ -4,5 +4,6 @@
 mod board;
 mod eights;
 pub mod laws;
+pub mod words;
 
 pub use board::LaneBoard;

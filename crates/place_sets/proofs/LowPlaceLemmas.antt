@@ -18,7 +18,7 @@ use Rattle.srs.specs.Rising.{IsNextAbove}
 use Rattle.well.specs.LockLaws.{is_below}
 use Rattle.place_sets.specs.States.{HasExactly, IsUnder, States, has_state}
 use Rattle.place_sets.specs.declared.low_held.LowPlaces.{LowPlaces}
-use Rattle.place_sets.specs.LowestBit.{IsLowestBit}
+use Rattle.lane_board.specs.LowestBit.{IsLowestBit}
 use Rattle.place_sets.specs.LowPlaces.{holds, piece_of}
 use Rattle.place_sets.specs.Scan.{state_number}
 use Rattle.place_sets.specs.Tops.{rows_over_pivot}

@@ -3,7 +3,7 @@ use Rattle.std.proofs.Common.{◌≡◌, ℕ, ◌+◌, ◌-◌, ◌*◌, ◌/◌
 use Rattle.std.proofs.lemmas.Bool.{agree_below_at, and_parts, and_from, cases_Bool, cases_eq, le-leb, leb-true, ne_eqb, both_ways}
 use Rattle.lane_board.specs.Lanes.{has_bit}
 use Rattle.lane_board.proofs.CallerLemmas.{has_bit-zero}
-use Rattle.place_sets.specs.LowestBit.{IsLowestBit}
+use Rattle.lane_board.specs.LowestBit.{IsLowestBit}
 use Rattle.place_sets.specs.declared.numbers.Numbers.{Numbers}
 use Rattle.place_sets.specs.Numbers.{has_number, IsFirstNumber, NoNumber, IsFirstWord, NoWord}
 use Rattle.place_sets.proofs.NumberLemmas.{first_in, first_of_all, has_number-in, none_at_all, word_whole}

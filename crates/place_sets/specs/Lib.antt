@@ -8,5 +8,4 @@ pub mod Numbers
 -- What serves proofs alone: bits.
 pub mod Scan
 pub mod FourRows
-pub mod LowestBit
 pub mod Tops

@@ -8,10 +8,9 @@ ghost use Rattle.srs.specs.Rotation.{rotation_index};
 use crate::pivots::Pivots;
 use crate::scan::rotation_at;
 use crate::tops::rows_left;
-use crate::words::{
-    bits_of_both, bits_under, bits_without, four_rows, has_none, lowest_bit, without_lowest,
-};
+use crate::words::{bits_under, four_rows};
 use lane_board::LaneBoard;
+use lane_board::words::{bits_of_both, bits_without, has_none, lowest_bit, without_lowest};
 use srs::{Piece, Placement};
 
 /// Canonical placements of one piece with the pivot in rows 0 to 7.

@@ -4,7 +4,8 @@ ghost use Rattle.lane_board.specs.Lanes.{has_bit};
 
 use crate::pivots::Pivots;
 use crate::scan::number_of;
-use crate::words::{bits_from, four_rows, has_bit, in_low_rows, lowest_bit, without_lowest};
+use crate::words::{bits_from, four_rows, in_low_rows};
+use lane_board::words::{has_bit, lowest_bit, without_lowest};
 use srs::Placement;
 
 /// How many words of 64 bits a set has.

@@ -1,6 +1,0 @@
--- A bit is in either word.
-use Rattle.lane_board.proofs.CallerLemmas.{has_bit-or}
-use Rattle.place_sets.proofs.words.bits_of_both.Goals as goal
-
-pub returns : goal.returns
-returns c = λ k. has_bit-or c.args.one c.args.other k
