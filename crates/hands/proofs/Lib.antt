@@ -1,14 +1,25 @@
 -- The lemmas of this crate.
 pub mod CallerLemmas
+pub mod KeyLemmas
+pub mod BlockLemmas
+pub mod FirstRests
+pub mod SecondRests
+pub mod LeadingSteps
+pub mod RestSteps
+pub mod KeptSteps
+pub mod SplitSteps
+pub mod PieceBits
 mod HandLemmas
+mod BackLemmas
 mod HasLemmas
-mod InsertLemmas
-mod LookupLemmas
-mod MergeSteps
 mod NumberSteps
-mod RestSteps
-mod SearchLemmas
-mod SetLemmas
-mod SetSteps
-mod WholeLemmas
-mod WithoutSteps
+pub mod EmptyLemmas
+pub mod OrderLemmas
+pub mod PartLemmas
+pub mod AddSteps
+pub mod MergeSteps
+pub mod OneHand
+pub mod GatherSteps
+pub mod NumberedHands
+mod WeightLemmas
+mod AllowingLemmas

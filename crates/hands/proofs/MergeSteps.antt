@@ -1,93 +1,59 @@
--- The steps of a merge.
-use Rattle.std.proofs.Common.{ℕ, ◌≡◌, ◌+◌, ◌-◌, ◌<◌, ◌≤◌, Bool, true, false, ◌||◌, ◌==◌, List, [], ◌∷◌, ◌++◌, length, get_or, take, drop, refl, ap, ◌∙◌, sym, arith, inl, inr}
-use Rattle.std.proofs.lemmas.Bool.{cases_lt}
-use Rattle.std.proofs.lemmas.List.{take-append-drop, get_or-drop, length-drop, length-append, get_or_append_left, get_or-append_right}
+-- The blocks of two sets are added to a third.
+use Rattle.std.proofs.Common.{ℕ, ◌≡◌, ◌+◌, ◌<◌, ◌≤◌, Bool, true, false, ◌||◌, List, length, get_or, take, refl, sym, ap, ◌∙◌, arith}
 use Rattle.std.proofs.Math.Bool.{or_assoc, or_comm}
-use Rattle.hands.specs.Rising.{IsRising, has_number}
-use Rattle.hands.proofs.HasLemmas.{AllBelow, has-append, has-push, has-more, has-all, below-push, rising-push, below-more}
+use Rattle.hands.specs.declared.block.Block.{Block}
+use Rattle.hands.specs.declared.hand_set.HandSet.{HandSet}
+use Rattle.hands.specs.BlockHands.{in_block}
+use Rattle.hands.specs.Blocks.{ending_of, have_parts, key_of}
+use Rattle.hands.specs.HandSets.{has}
+use Rattle.hands.proofs.PartLemmas.{parts-all, parts-more, parts-none, parts-one}
 
--- v is merged from i numbers of a and j of b
-pub record Merging (a b v : List ℕ) (i j : ℕ) : Type 0 where
-  pub rises : IsRising v
-  pub members : (number : ℕ) → has_number v number ≡ (has_number (take i a) number || has_number (take j b) number)
-  pub below_a : i < length a → AllBelow v (get_or a i 0)
-  pub below_b : j < length b → AllBelow v (get_or b j 0)
+-- whether one of the first blocks has a hand
+abbrev pub first_have : List Block → ℕ → ℕ → Bool
+first_have blocks i hand = have_parts (take i blocks) (key_of hand) (ending_of hand)
+
+-- a set has the hands of so many blocks of two lists
+pub record Merged (hands : HandSet) (a b : List Block) (i j : ℕ) : Type 0 where
+  pub members : (hand : ℕ) → has hands hand ≡ (first_have a i hand || first_have b j hand)
   pub within : j ≤ length b
+
+pub merge-starts : (hands : HandSet) (a b : List Block) → ((hand : ℕ) → has hands hand ≡ false) → Merged hands a b 0 0
+merge-starts hands a b none = record { members = λ hand. none hand ∙ (λ x. sym (parts-none (key_of hand) (ending_of hand)) x || sym (parts-none (key_of hand) (ending_of hand)) x); within = omega arith }
+
+pub first-more : (blocks : List Block) (i : ℕ) (d : Block) (hand : ℕ) → i < length blocks → first_have blocks (i + 1) hand ≡ (first_have blocks i hand || in_block (get_or blocks i d) hand)
+first-more blocks i d hand below = parts-more blocks i d (key_of hand) (ending_of hand) below ∙ ap (λ b. first_have blocks i hand || b) (parts-one (get_or blocks i d) hand)
 
 or_first : (s t e : Bool) → ((s || t) || e) ≡ ((s || e) || t)
 or_first true t e = refl
 or_first false t e = or_comm t e
 
-or_both : (s t e : Bool) → ((s || t) || e) ≡ ((s || e) || (t || e))
-or_both true t e = refl
-or_both false true true = refl
-or_both false true false = refl
-or_both false false true = refl
-or_both false false false = refl
-
-pub merge-second : (a b v : List ℕ) (i j : ℕ) → IsRising b → Merging a b v i j → i < length a → j < length b → get_or b j 0 < get_or a i 0
-    → Merging a b (v ++ get_or b j 0 ∷ []) i (j + 1)
-merge-second a b v i j up state in_a in_b less = record {
-  rises = rising-push v (get_or b j 0) state.rises (state.below_b in_b);
-  members = λ number. has-push v (get_or b j 0) number ∙ ap (λ x. x || get_or b j 0 == number) (state.members number)
-      ∙ or_assoc (has_number (take i a) number) (has_number (take j b) number) (get_or b j 0 == number) ∙ ap (λ x. has_number (take i a) number || x) (sym (has-more b j number in_b));
-  below_a = λ _. below-push v (get_or b j 0) (get_or a i 0) (state.below_a in_a) less;
-  below_b = λ more. let step = up j (j + 1) (omega arith) more in
-      below-push v (get_or b j 0) (get_or b (j + 1) 0) (below-more v (get_or b j 0) (get_or b (j + 1) 0) (state.below_b in_b) (omega arith)) step;
+pub merge-second : (old new : HandSet) (a b : List Block) (i j : ℕ) (block d : Block) → Merged old a b i j → j < length b → block ≡ get_or b j d
+    → ((hand : ℕ) → has new hand ≡ (has old hand || in_block block hand)) → Merged new a b i (j + 1)
+merge-second old new a b i j block d state below is added = record {
+  members = λ hand.
+      added hand ∙ ap (λ s. s || in_block block hand) (state.members hand)
+      ∙ or_assoc (first_have a i hand) (first_have b j hand) (in_block block hand)
+      ∙ ap (λ (x : Block). first_have a i hand || (first_have b j hand || in_block x hand)) is
+      ∙ ap (λ s. first_have a i hand || s) (sym (first-more b j d hand below));
   within = omega arith;
 }
 
-pub merge-first : (a b v : List ℕ) (i j : ℕ) → IsRising a → Merging a b v i j → i < length a → (j < length b → get_or a i 0 < get_or b j 0)
-    → Merging a b (v ++ get_or a i 0 ∷ []) (i + 1) j
-merge-first a b v i j up state in_a less = record {
-  rises = rising-push v (get_or a i 0) state.rises (state.below_a in_a);
-  members = λ number. has-push v (get_or a i 0) number ∙ ap (λ x. x || get_or a i 0 == number) (state.members number)
-      ∙ or_first (has_number (take i a) number) (has_number (take j b) number) (get_or a i 0 == number) ∙ ap (λ x. x || has_number (take j b) number) (sym (has-more a i number in_a));
-  below_a = λ more. let step = up i (i + 1) (omega arith) more in
-      below-push v (get_or a i 0) (get_or a (i + 1) 0) (below-more v (get_or a i 0) (get_or a (i + 1) 0) (state.below_a in_a) (omega arith)) step;
-  below_b = λ more. below-push v (get_or a i 0) (get_or b j 0) (state.below_b more) (less more);
+pub merge-first : (old new : HandSet) (a b : List Block) (i j : ℕ) (block d : Block) → Merged old a b i j → i < length a → block ≡ get_or a i d
+    → ((hand : ℕ) → has new hand ≡ (has old hand || in_block block hand)) → Merged new a b (i + 1) j
+merge-first old new a b i j block d state below is added = record {
+  members = λ hand.
+      added hand ∙ ap (λ s. s || in_block block hand) (state.members hand)
+      ∙ or_first (first_have a i hand) (first_have b j hand) (in_block block hand)
+      ∙ ap (λ (x : Block). (first_have a i hand || in_block x hand) || first_have b j hand) is
+      ∙ ap (λ s. s || first_have b j hand) (sym (first-more a i d hand below));
   within = state.within;
 }
 
-pub merge-both : (a b v : List ℕ) (i j : ℕ) → IsRising a → IsRising b → Merging a b v i j → i < length a → j < length b → get_or b j 0 ≡ get_or a i 0
-    → Merging a b (v ++ get_or a i 0 ∷ []) (i + 1) (j + 1)
-merge-both a b v i j up_a up_b state in_a in_b same = record {
-  rises = rising-push v (get_or a i 0) state.rises (state.below_a in_a);
-  members = λ number. has-push v (get_or a i 0) number ∙ ap (λ x. x || get_or a i 0 == number) (state.members number)
-      ∙ or_both (has_number (take i a) number) (has_number (take j b) number) (get_or a i 0 == number)
-      ∙ ap (λ x. x || (has_number (take j b) number || get_or a i 0 == number)) (sym (has-more a i number in_a))
-      ∙ ap (λ x. has_number (take (i + 1) a) number || x) (ap (λ n. has_number (take j b) number || n == number) (sym same) ∙ sym (has-more b j number in_b));
-  below_a = λ more. let step = up_a i (i + 1) (omega arith) more in
-      below-push v (get_or a i 0) (get_or a (i + 1) 0) (below-more v (get_or a i 0) (get_or a (i + 1) 0) (state.below_a in_a) (omega arith)) step;
-  below_b = λ more. let step = up_b j (j + 1) (omega arith) more in
-      let here : get_or a i 0 < get_or b (j + 1) 0 = omega arith in
-      below-push v (get_or a i 0) (get_or b (j + 1) 0) (below-more v (get_or b j 0) (get_or b (j + 1) 0) (state.below_b in_b) (omega arith)) here;
-  within = omega arith;
-}
-
-pub merge-rises : (a b v : List ℕ) (i j : ℕ) → IsRising b → Merging a b v i j → IsRising (v ++ drop j b)
-merge-rises a b v i j up state m n before below =
-    let size : length (v ++ drop j b) ≡ length v + (length b - j) = simp (length-append, length-drop) in
-    elim (cases_lt n (length v)) [
-      | inl front ↦ rw (get_or_append_left v (drop j b) 0 m (omega arith), get_or_append_left v (drop j b) 0 n front) (state.rises m n before front)
-      | inr back ↦
-          let last : get_or (v ++ drop j b) n 0 ≡ get_or b (j + (n - length v)) 0 = get_or-append_right v (drop j b) (length v) n 0 refl back ∙ get_or-drop j b (n - length v) 0 in
-          elim (cases_lt m (length v)) [
-            | inl front ↦
-                let first : get_or (v ++ drop j b) m 0 ≡ get_or v m 0 = get_or_append_left v (drop j b) 0 m front in
-                let less : get_or v m 0 < get_or b j 0 = state.below_b (omega arith) m front in
-                let later = up j (j + (n - length v)) in
-                grind arith
-            | inr second ↦
-                let first : get_or (v ++ drop j b) m 0 ≡ get_or b (j + (m - length v)) 0 = get_or-append_right v (drop j b) (length v) m 0 refl second ∙ get_or-drop j b (m - length v) 0 in
-                let less = up (j + (m - length v)) (j + (n - length v)) (omega arith) (omega arith) in
-                omega arith
-          ]
-    ]
-
-pub merge-members : (a b v : List ℕ) (i j : ℕ) → length a ≤ i → Merging a b v i j → (number : ℕ) → has_number (v ++ drop j b) number ≡ (has_number a number || has_number b number)
-merge-members a b v i j all state number =
-    has-append v (drop j b) number ∙ ap (λ x. x || has_number (drop j b) number) (state.members number)
-    ∙ or_assoc (has_number (take i a) number) (has_number (take j b) number) (has_number (drop j b) number)
-    ∙ ap (λ x. has_number (take i a) number || x) (sym (has-append (take j b) (drop j b) number) ∙ ap (λ l. has_number l number) (take-append-drop j b))
-    ∙ ap (λ x. x || has_number b number) (has-all a i number all)
+pub merge-done : (hands one other : HandSet) (a b : List Block) (i j : ℕ) → Merged hands a b i j → length a ≤ i → length b ≤ j → a ≡ one.blocks.items → b ≡ other.blocks.items
+    → (hand : ℕ) → has hands hand ≡ (has one hand || has other hand)
+unfolding has
+merge-done hands one other a b i j state all_a all_b a_is b_is hand =
+    state.members hand
+    ∙ ap (λ s. s || first_have b j hand) (parts-all a i (key_of hand) (ending_of hand) all_a)
+    ∙ ap (λ s. have_parts a (key_of hand) (ending_of hand) || s) (parts-all b j (key_of hand) (ending_of hand) all_b)
+    ∙ (λ x. have_parts (a_is x) (key_of hand) (ending_of hand) || have_parts (b_is x) (key_of hand) (ending_of hand))

@@ -1,146 +1,39 @@
--- What is left of hands that a piece is taken from, and hands that pass a test, one hand on.
-use Rattle.std.proofs.Common.{ℕ, ◌≡◌, ◌+◌, ◌*◌, ◌/◌, ◌%◌, ◌<◌, ◌≤◌, Bool, true, false, ◌&&◌, ◌||◌, ◌==◌, List, [], ◌∷◌, ◌++◌, length, get_or, take, ap, ◌∙◌, sym, arith, inl, inr, rules}
-use Rattle.std.proofs.lemmas.Bool.{cases_lt}
-use Rattle.std.proofs.lemmas.Bool.Decides.{nat_tests}
-use Rattle.hands.specs.Rising.{IsRising, has_number}
-use Rattle.hands.proofs.HasLemmas.{AllBelow, has-absent, has-none, has-push, has-more, has-all, rising-none, rising-push, below-push, below-more}
-use Rattle.hands.specs.Hands.{with_first, with_second}
+-- What is left of the hands of a set, one block on.
+use Rattle.std.proofs.Common.{ℕ, ◌≡◌, ◌+◌, ◌<◌, ◌≤◌, false, ◌||◌, List, length, get_or, take, sym, ap, subst, ◌∙◌}
+use Rattle.hands.specs.declared.block.Block.{Block}
+use Rattle.hands.specs.declared.hand_set.HandSet.{HandSet}
+use Rattle.hands.specs.BlockHands.{in_block}
+use Rattle.hands.specs.Blocks.{ending_of, have_parts, key_of}
+use Rattle.hands.specs.HandSets.{has}
+use Rattle.hands.proofs.PartLemmas.{parts-all, parts-more, parts-none, parts-one}
 
--- putting a piece back keeps the order of what was left
-pub record KeepsOrder (back : ℕ → ℕ) : Type 0 where
-  pub up : (r s : ℕ) → r < s → back r < back s
+-- a set has what is left of the hands of the first blocks
+pub record HasLeft (back : ℕ → ℕ) (blocks : List Block) (count : ℕ) (rests : HandSet) : Type 0 where
+  pub is : (rest : ℕ) → has rests rest ≡ have_parts (take count blocks) (key_of (back rest)) (ending_of (back rest))
 
-module _ (back : ℕ → ℕ) (keeps : KeepsOrder back) where
-  down : (r s : ℕ) → back r < back s → r < s
-  down r s less = elim (cases_lt r s) [
-    | inl is ↦ is
-    | inr above ↦ elim (cases_lt s r) [
-      | inl other ↦ let turned = keeps.up s r other in absurd (omega arith)
-      | inr both ↦ let same : r ≡ s = omega arith in let equal = ap back same in absurd (omega (arith, equal))
-    ]
-  ]
+pub left-none : (back : ℕ → ℕ) (blocks : List Block) (rests : HandSet) → ((hand : ℕ) → has rests hand ≡ false) → HasLeft back blocks 0 rests
+left-none back blocks rests none = record { is = λ rest. none rest ∙ sym (parts-none (key_of (back rest)) (ending_of (back rest))) }
 
-  one : (r s : ℕ) → back r ≡ back s → r ≡ s
-  one r s same = elim (cases_lt r s) [
-    | inl less ↦ let more = keeps.up r s less in absurd (omega arith)
-    | inr above ↦ elim (cases_lt s r) [
-      | inl less ↦ let more = keeps.up s r less in absurd (omega arith)
-      | inr both ↦ omega arith
-    ]
-  ]
-
-pub with_first-keeps : (code : ℕ) → KeepsOrder (with_first code)
-unfolding with_first
-with_first-keeps code = record { up = λ r s less. omega arith }
-
-pub with_second-keeps : (code : ℕ) → KeepsOrder (with_second code)
-unfolding with_second
-with_second-keeps code = record { up = λ r s less. omega arith }
-
--- v has what is left of the first i hands
-pub record Resting (back : ℕ → ℕ) (hands v : List ℕ) (i : ℕ) : Type 0 where
-  pub rises : IsRising v
-  pub members : (rest : ℕ) → has_number v rest ≡ has_number (take i hands) (back rest)
-  pub below : i < length hands → (k : ℕ) → k < length v → back (get_or v k 0) < get_or hands i 0
-
-pub rest-starts : (back : ℕ → ℕ) (hands : List ℕ) → Resting back hands [] 0
-rest-starts back hands = record {
-  rises = rising-none;
-  members = λ rest. has-none rest ∙ sym (has-none (back rest));
-  below = λ _ k low. absurd (omega arith);
+pub left-more : (back : ℕ → ℕ) (blocks : List Block) (i : ℕ) (d left : Block) (rests new : HandSet) → i < length blocks
+    → ((rest : ℕ) → in_block left rest ≡ in_block (get_or blocks i d) (back rest))
+    → ((hand : ℕ) → has new hand ≡ (has rests hand || in_block left hand))
+    → HasLeft back blocks i rests → HasLeft back blocks (i + 1) new
+left-more back blocks i d left rests new below is added so_far = record {
+  is = λ rest.
+      added rest ∙ (λ j. so_far.is rest j || is rest j)
+      ∙ ap (λ b. have_parts (take i blocks) (key_of (back rest)) (ending_of (back rest)) || b) (sym (parts-one (get_or blocks i d) (back rest)))
+      ∙ sym (parts-more blocks i d (key_of (back rest)) (ending_of (back rest)) below);
 }
 
-same_tests : (x y a b : ℕ) → (x ≡ y → a ≡ b) → (a ≡ b → x ≡ y) → (x == y) ≡ (a == b)
-same_tests x y a b to from = grind (arith, nat_tests)
+-- the same where the list of blocks is given once more
+pub left-step : (back : ℕ → ℕ) (blocks items : List Block) (i : ℕ) (d left : Block) (rests new : HandSet) → items ≡ blocks → i < length items
+    → ((rest : ℕ) → in_block left rest ≡ in_block (get_or items i d) (back rest))
+    → ((hand : ℕ) → has new hand ≡ (has rests hand || in_block left hand))
+    → HasLeft back blocks i rests → HasLeft back blocks (i + 1) new
+left-step back blocks items i d left rests new same below is added =
+    subst (λ (l : List Block). HasLeft back l i rests → HasLeft back l (i + 1) new) same (left-more back items i d left rests new below is added)
 
-pub rest-push : (back : ℕ → ℕ) (hands v : List ℕ) (i rest : ℕ) → KeepsOrder back → IsRising hands → Resting back hands v i → i < length hands → back rest ≡ get_or hands i 0
-    → Resting back hands (v ++ rest ∷ []) (i + 1)
-rest-push back hands v i rest keeps up state in_hands whole =
-    let above : AllBelow v rest = λ k low. let old = state.below in_hands k low in down back keeps (get_or v k 0) rest (omega arith) in record {
-      rises = rising-push v rest state.rises above;
-      members = λ other. has-push v rest other ∙ ap (λ b. b || rest == other) (state.members other)
-          ∙ ap (λ b. has_number (take i hands) (back other) || b) (same_tests rest other (get_or hands i 0) (back other) (λ same. sym whole ∙ ap back same) (λ same. one back keeps rest other (whole ∙ same)))
-          ∙ sym (has-more hands i (back other) in_hands);
-      below = λ more k low.
-          let next = up i (i + 1) (omega arith) more in
-          let last : AllBelow (v ++ rest ∷ []) (rest + 1) = below-push v rest (rest + 1) (below-more v rest (rest + 1) above (omega arith)) (omega arith) in
-          let at = last k low in
-          elim (cases_lt (get_or (v ++ rest ∷ []) k 0) rest) [
-            | inl less ↦ let lower = keeps.up (get_or (v ++ rest ∷ []) k 0) rest less in omega arith
-            | inr top ↦ let same : get_or (v ++ rest ∷ []) k 0 ≡ rest = omega arith in let equal = ap back same in omega (arith, equal)
-          ];
-    }
-
-pub or_false : (a b : Bool) → b ≡ false → a ≡ (a || b)
-or_false a b h = search rules
-
-pub rest-pass : (back : ℕ → ℕ) (hands v : List ℕ) (i : ℕ) → IsRising hands → Resting back hands v i → i < length hands → ((rest : ℕ) → get_or hands i 0 ≡ back rest → ⊥)
-    → Resting back hands v (i + 1)
-rest-pass back hands v i up state in_hands other = search (rules, or_false, nat_tests, has-more)
-
-pub rest-members : (back : ℕ → ℕ) (hands v : List ℕ) (i : ℕ) → length hands ≤ i → Resting back hands v i → (rest : ℕ) → has_number v rest ≡ has_number hands (back rest)
-rest-members back hands v i all state rest = state.members rest ∙ has-all hands i (back rest) all
-
-pub first_back : (code hand : ℕ) → hand % 8 ≡ code → with_first code (hand / 8) ≡ hand
-unfolding with_first
-first_back code hand is = omega arith
-
-pub first_other : (code hand : ℕ) → code < 8 → (hand % 8 ≡ code → ⊥) → (rest : ℕ) → hand ≡ with_first code rest → ⊥
-unfolding with_first
-first_other code hand few other rest same = other (omega arith)
-
-pub second_back : (code hand : ℕ) → hand / 8 % 8 ≡ code → with_second code (hand / 64 * 8 + hand % 8) ≡ hand
-unfolding with_second
-second_back code hand is = omega arith
-
-pub second_other : (code hand : ℕ) → code < 8 → (hand / 8 % 8 ≡ code → ⊥) → (rest : ℕ) → hand ≡ with_second code rest → ⊥
-unfolding with_second
-second_other code hand few other rest same = other (omega arith)
-
--- where no hand comes from a rest, nothing is left of them
-pub none-left : (back : ℕ → ℕ) (hands : List ℕ) → ((k : ℕ) → k < length hands → (rest : ℕ) → get_or hands k 0 ≡ back rest → ⊥) → (rest : ℕ) → false ≡ has_number hands (back rest)
-none-left back hands other rest = sym (has-absent hands (back rest) (λ k low. other k low rest))
-
--- those of the first i hands that pass a test
-pub record Keeping (test : ℕ → Bool) (hands v : List ℕ) (i : ℕ) : Type 0 where
-  pub rises : IsRising v
-  pub members : (hand : ℕ) → has_number v hand ≡ (has_number (take i hands) hand && test hand)
-  pub below : i < length hands → AllBelow v (get_or hands i 0)
-
-pub keep-starts : (test : ℕ → Bool) (hands : List ℕ) → Keeping test hands [] 0
-keep-starts test hands = record {
-  rises = rising-none;
-  members = λ hand. has-none hand ∙ ap (λ b. b && test hand) (sym (has-none hand));
-  below = λ _ k low. absurd (omega arith);
-}
-
-kept_one : (t b e : Bool) → (e ≡ true → b ≡ true) → ((t && b) || e) ≡ ((t || e) && b)
-kept_one t b e passes = search rules
-
-left_out : (t b e : Bool) → (e ≡ true → b ≡ false) → (t && b) ≡ ((t || e) && b)
-left_out t b e fails = search rules
-
-pub keep-push : (test : ℕ → Bool) (hands v : List ℕ) (i : ℕ) → IsRising hands → Keeping test hands v i → i < length hands → test (get_or hands i 0) ≡ true
-    → Keeping test hands (v ++ get_or hands i 0 ∷ []) (i + 1)
-keep-push test hands v i up state in_hands passes = record {
-  rises = rising-push v (get_or hands i 0) state.rises (state.below in_hands);
-  members = λ hand. has-push v (get_or hands i 0) hand ∙ ap (λ b. b || get_or hands i 0 == hand) (state.members hand)
-      ∙ kept_one (has_number (take i hands) hand) (test hand) (get_or hands i 0 == hand) (λ same. let is : get_or hands i 0 ≡ hand = grind (arith, nat_tests) in ap test (sym is) ∙ passes)
-      ∙ ap (λ b. b && test hand) (sym (has-more hands i hand in_hands));
-  below = λ more. let next = up i (i + 1) (omega arith) more in
-      below-push v (get_or hands i 0) (get_or hands (i + 1) 0) (below-more v (get_or hands i 0) (get_or hands (i + 1) 0) (state.below in_hands) (omega arith)) next;
-}
-
-pub keep-pass : (test : ℕ → Bool) (hands v : List ℕ) (i : ℕ) → IsRising hands → Keeping test hands v i → i < length hands → test (get_or hands i 0) ≡ false
-    → Keeping test hands v (i + 1)
-keep-pass test hands v i up state in_hands fails = record {
-  rises = state.rises;
-  members = λ hand. state.members hand
-      ∙ left_out (has_number (take i hands) hand) (test hand) (get_or hands i 0 == hand) (λ same. let is : get_or hands i 0 ≡ hand = grind (arith, nat_tests) in ap test (sym is) ∙ fails)
-      ∙ ap (λ b. b && test hand) (sym (has-more hands i hand in_hands));
-  below = λ more. let next = up i (i + 1) (omega arith) more in
-      below-more v (get_or hands i 0) (get_or hands (i + 1) 0) (state.below in_hands) (omega arith);
-}
-
-pub keep-members : (test : ℕ → Bool) (hands v : List ℕ) (i : ℕ) → length hands ≤ i → Keeping test hands v i → (hand : ℕ) → has_number v hand ≡ (has_number hands hand && test hand)
-keep-members test hands v i all state hand = state.members hand ∙ ap (λ b. b && test hand) (has-all hands i hand all)
+pub left-all : (back : ℕ → ℕ) (hands rests : HandSet) (i : ℕ) → length hands.blocks.items ≤ i → HasLeft back hands.blocks.items i rests
+    → (rest : ℕ) → has rests rest ≡ has hands (back rest)
+unfolding has
+left-all back hands rests i all left rest = left.is rest ∙ parts-all hands.blocks.items i (key_of (back rest)) (ending_of (back rest)) all

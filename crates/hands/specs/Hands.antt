@@ -31,6 +31,11 @@ takes hold code goes_on hand =
     (hand % 8 == code && goes_on (without_first hand))
     || (allows_hold hold && (hand / 8 % 8 == code && goes_on (without_second hand)))
 
+-- the kinds of these pieces can be taken from the hand one after the other
+unfoldable pub takes_all : Hold → ℕ → List Piece → Bool
+takes_all hold hand [] = true
+takes_all hold hand (piece ∷ more) = takes hold (piece_code piece) (λ rest. takes_all hold rest more) hand
+
 -- with a first piece more, and with a piece more behind the first
 unfoldable pub with_first : ℕ → ℕ → ℕ
 with_first code rest = rest * 8 + code

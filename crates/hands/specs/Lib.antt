@@ -1,4 +1,9 @@
 -- What a reader must believe
 pub mod Hands
+pub mod Numbers
+pub mod Blocks
 pub mod HandSets
-pub mod Rising
+-- What contracts cite beside these: sums of weights, and what is noted at them
+pub mod Weights
+-- What the invariants of types cite
+pub mod BlockHands

@@ -1,72 +1,55 @@
 // What is left of hands when a piece is taken, and which hands lead to such a rest.
-ghost use Rattle.std.specs.Prelude.{◌≡◌, ℕ, ◌<◌, ◌/◌, ◌%◌, ◌==◌, ◌&&◌, ◌||◌, false, not, length, slice_index, IfOk};
+ghost use Rattle.std.specs.Prelude.{◌≡◌, ℕ, ◌<◌, ◌/◌, ◌%◌, ◌==◌, ◌&&◌, ◌||◌, not, IfOk};
 ghost use Rattle.srs.specs.Piece.{piece_code};
-ghost use Rattle.hands.specs.Hands.{allows_hold, takes, with_first, with_second};
+ghost use Rattle.lane_board.specs.Lanes.{has_bit};
+ghost use Rattle.hands.specs.Blocks.{ending_of, key_of};
+ghost use Rattle.hands.specs.Hands.{allows_hold, takes, with_first, with_second, without_first, without_second};
 ghost use Rattle.hands.specs.HandSets.{has};
-ghost use Rattle.hands.specs.Rising.{IsRising, has_number};
 
-use crate::hand_set::HandSet;
-use crate::lookup::holds_at;
+use crate::block::{Block, pairs_with, seconds};
+use crate::hand_set::{HandSet, endings_at};
 use hold_queue::Hold;
+use lane_board::words::{bits_of_both, bits_without};
 use pc_outside::NoMemory;
 use srs::Piece;
 use std::alloc::Global;
 
-/// Whether some hand has a code behind a piece (`unit` is 8), or at its beginning (1).
+/// The endings of the hands of a block, whose key this is, that begin with a piece and have one of these rests. The
+/// rests are looked for from an index on.
 #[inline(always)]
-fn some_has(hands: &[u64], unit: u64, code: u64) -> bool
-    requires { 0 < unit }
-    ensures { result ≡ false → (k : ℕ) → k < length hands.now → slice_index hands.now k / unit % 8 ≡ code → ⊥ }
+fn leading_by_first(rests: &HandSet, next: &mut usize, key: u64, code: u64) -> u64
+    requires { code < 8 }
+    ensures { (hand : ℕ) → key_of hand ≡ key
+        → has_bit result (ending_of hand) ≡ ((hand % 8 == code) && has rests.now (without_first hand)) }
 {
-    for hand in hands {
-        if *hand / unit % 8 == code {
-            return true;
-        }
+    let blocks = rests.blocks.as_slice();
+    if key < 8 {
+        return pairs_with(code, endings_at(blocks, next, 1));
     }
-    false
+    if key % 8 != code {
+        return 0;
+    }
+    endings_at(blocks, next, key / 8)
 }
 
-/// Whether a code is the one that is sought and the rest is one of these. The rest is looked for from an index on,
-/// which goes on to where it stands. Hands that rise ask for rests that rise, so all are found in one pass.
-fn is_one_of(rests: &[u64], next: &mut usize, sought: u64, code: u64, rest: u64) -> bool
-    requires { IsRising rests.now }
-    ensures { result ≡ (code == sought && has_number rests.now rest) }
+/// The same for the second piece.
+#[inline(always)]
+fn leading_by_second(rests: &HandSet, next: &mut usize, key: u64, code: u64) -> u64
+    requires { code < 8 }
+    ensures { (hand : ℕ) → key_of hand ≡ key
+        → has_bit result (ending_of hand) ≡ ((hand / 8 % 8 == code) && has rests.now (without_second hand)) }
 {
-    if code != sought {
-        return false;
+    let blocks = rests.blocks.as_slice();
+    if key < 8 {
+        return (endings_at(blocks, next, 1) & 255) << (8 * code);
     }
-    while *next < rests.len() && rests[*next] < rest {
-        *next += 1;
+    if key < 64 {
+        return pairs_with(code, seconds(endings_at(blocks, next, 1), key % 8));
     }
-    holds_at(rests, *next, rest)
-}
-
-/// Whether a piece can be taken from a hand so that one of these is left. Both rests are looked for from an index on.
-#[tactic(auto, unfolding(crate::specs::Hands::takes, crate::specs::Hands::without_first, crate::specs::Hands::without_second))]
-fn leaves_one_of(
-    hold: Hold,
-    piece: Piece,
-    rests: &[u64],
-    next_first: &mut usize,
-    next_second: &mut usize,
-    hand: u64,
-) -> bool
-    requires { IsRising rests.now }
-    ensures { result ≡ takes hold (piece_code piece) (has_number rests.now) hand }
-{
-    let code = u64::from(piece.code());
-    let first = is_one_of(rests, next_first, code, hand % 8, hand / 8);
-    let second = is_one_of(
-        rests,
-        next_second,
-        code,
-        hand / 8 % 8,
-        hand / 64 * 8 + hand % 8,
-    );
-    match hold {
-        Hold::Avoided => first,
-        Hold::Allowed => first || second,
+    if key / 8 % 8 != code {
+        return 0;
     }
+    endings_at(blocks, next, key / 64 * 8 + key % 8)
 }
 
 impl HandSet {
@@ -75,17 +58,11 @@ impl HandSet {
         requires { code < 8 }
         ensures { IfOk result (λ rests. (rest : ℕ) → has rests rest ≡ has self.now (with_first code rest)) }
     {
-        let hands = self.numbers();
-        if !some_has(hands, 1, code) {
-            return Ok(HandSet::none(alloc));
+        let mut rests = HandSet::none(alloc);
+        for block in &self.blocks {
+            rests.add(block.without_first(code))?;
         }
-        let mut v = Vec::with_capacity(alloc, hands.len())?;
-        for hand in hands {
-            if *hand % 8 == code {
-                v.push(*hand / 8)?;
-            }
-        }
-        Ok(HandSet { numbers: v })
+        Ok(rests)
     }
 
     /// The hands whose second piece is this one, each without it.
@@ -93,17 +70,11 @@ impl HandSet {
         requires { code < 8 }
         ensures { IfOk result (λ rests. (rest : ℕ) → has rests rest ≡ has self.now (with_second code rest)) }
     {
-        let hands = self.numbers();
-        if !some_has(hands, 8, code) {
-            return Ok(HandSet::none(alloc));
+        let mut rests = HandSet::none(alloc);
+        for block in &self.blocks {
+            rests.add(block.without_second(code))?;
         }
-        let mut v = Vec::with_capacity(alloc, hands.len())?;
-        for hand in hands {
-            if *hand / 8 % 8 == code {
-                v.push(*hand / 64 * 8 + *hand % 8)?;
-            }
-        }
-        Ok(HandSet { numbers: v })
+        Ok(rests)
     }
 
     /// What is left of the hands from which a piece can be taken.
@@ -118,6 +89,12 @@ impl HandSet {
             return Ok(first);
         }
         let second = self.without_second(alloc, code)?;
+        if second.is_empty() {
+            return Ok(first);
+        }
+        if first.is_empty() {
+            return Ok(second);
+        }
         first.merged(alloc, &second)
     }
 
@@ -132,16 +109,23 @@ impl HandSet {
         ensures { IfOk result (λ hands. (hand : ℕ) → has hands hand
             ≡ (has self.now hand && not (takes hold (piece_code piece) (has rests.now) hand))) }
     {
-        let hands = self.numbers();
-        let rests = rests.numbers();
-        let mut v = Vec::with_capacity(alloc, hands.len())?;
+        let code = u64::from(piece.code());
+        let mut hands = HandSet::with_room_of(alloc, self)?;
         let (mut first, mut second) = (0, 0);
-        for hand in hands {
-            if !leaves_one_of(hold, piece, rests, &mut first, &mut second, *hand) {
-                v.push(*hand)?;
+        for block in &self.blocks {
+            let mut leading = leading_by_first(rests, &mut first, block.key, code);
+            if let Hold::Allowed = hold {
+                leading = bits_of_both(
+                    leading,
+                    leading_by_second(rests, &mut second, block.key, code),
+                );
             }
+            hands.add(Block {
+                key: block.key,
+                endings: bits_without(block.endings, leading),
+            })?;
         }
-        Ok(HandSet { numbers: v })
+        Ok(hands)
     }
 
     /// The same, without a look at the hands if there are none of these.

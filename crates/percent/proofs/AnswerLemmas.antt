@@ -1,5 +1,5 @@
 -- The hands of all queues, and how many of them are good.
-use Rattle.std.proofs.Common.{ℕ, ◌≡◌, ◌+◌, ◌%◌, ◌<◌, ◌≤◌, ◌↔◌, IsTrue, Bool, true, false, ◌&&◌, ◌||◌, ◌==◌, List, [], ◌∷◌, ◌++◌, length, length-append, get_or, take, ◌-◌, refl, ap, subst, ◌∙◌, sym, arith, inl, inr, rules}
+use Rattle.std.proofs.Common.{not, ℕ, ◌≡◌, ◌+◌, ◌%◌, ◌<◌, ◌≤◌, ◌↔◌, IsTrue, Bool, true, false, ◌&&◌, ◌||◌, ◌==◌, List, [], ◌∷◌, ◌++◌, length, length-append, get_or, take, ◌-◌, refl, ap, subst, ◌∙◌, sym, arith, inl, inr, rules}
 use Rattle.std.specs.Prelude.{Some, slice_get, count_by}
 use Rattle.std.proofs.lemmas.Bool.{cases_lt, eq-eqb, or_left, or_right, and_right}
 use Rattle.std.proofs.lemmas.Bool.Decides.{nat_tests}
@@ -9,13 +9,12 @@ use Rattle.std.proofs.lemmas.Option.{get_or_from_slice_get}
 use Rattle.srs.specs.declared.piece.Piece.{Piece}
 use Rattle.percent.specs.Good.{Good}
 use Rattle.well.specs.Well.{filled}
-use Rattle.srs.proofs.CallerLemmas.{and_first}
 use Rattle.queue_pattern.specs.Pattern.{elements_of}
 use Rattle.queue_pattern.specs.Queues.{queues}
 use Rattle.hands.specs.declared.hand_set.HandSet.{HandSet}
-use Rattle.hands.specs.HandSets.{has, in_order}
-use Rattle.hands.specs.Rising.{has_number}
-use Rattle.hands.proofs.CallerLemmas.{has-push, has-whole}
+use Rattle.hands.specs.HandSets.{has}
+use Rattle.hands.specs.Numbers.{has_number}
+use Rattle.hands.proofs.CallerLemmas.{has-push}
 use Rattle.problem.specs.declared.problem.Problem.{Problem}
 use Rattle.problem.specs.Problem.{IsFit, empties_of, needed_of}
 use Rattle.hands.specs.Hands.{hand_of}
@@ -115,7 +114,12 @@ pub uneven-answer : (problem : Problem) (hands : HandSet) → IsFit problem → 
     → (hand : ℕ) → false ≡ (has hands hand && is_good (game_of problem) (filled problem.well) problem.height (needed_of problem) hand)
 uneven-answer problem hands fit uneven hand = search (rules, and_right, uneven-none)
 
--- where as many hands are good as there are, all are
-pub whole-hands : (problem : Problem) (hands good : HandSet) (test : ℕ → Bool) (number : ℕ) → ((hand : ℕ) → has good hand ≡ (has hands hand && test hand))
-    → length (in_order good) ≡ length (in_order hands) → HasHandsBefore problem (has hands) number → HasHandsBefore problem (has good) number
-whole-hands problem hands good test number good_is same state = search (rules, has-whole, and_first)
+-- where no hand is left that is not good, all are
+pub whole-hands : (problem : Problem) (hands good rest : HandSet) (number : ℕ) → ((hand : ℕ) → has rest hand ≡ (has hands hand && not (has good hand)))
+    → ((hand : ℕ) → has rest hand ≡ false) → HasHandsBefore problem (has hands) number → HasHandsBefore problem (has good) number
+whole-hands problem hands good rest number rest_is none state = record {
+  each = λ k within. present (has hands (hand_at problem k)) (has good (hand_at problem k)) (state.each k within) (sym (rest_is (hand_at problem k)) ∙ none (hand_at problem k));
+}
+  where
+    present : (a b : Bool) → a ≡ true → (a && not b) ≡ false → b ≡ true
+    present a b there empty = search rules

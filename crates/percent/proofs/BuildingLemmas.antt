@@ -1,154 +1,336 @@
--- Hands that no listed tiling of their mark serves are not good.
-use Rattle.std.proofs.Common.{◌≡◌, ◌↔◌, ℕ, ◌+◌, ◌<◌, ◌≤◌, Bool, true, false, not, bit_and, bit_xor, List, [], ◌∷◌, ◌++◌, length, length-append, length-set, get_or, take, replicate, sym, ap, subst, ◌∙◌, inl, inr, arith}
+-- Hands that no listed tiling of their mark serves are not good. Of the others the tilings that serve them are used.
+use Rattle.std.proofs.Common.{◌≡◌, ◌↔◌, ℕ, ◌+◌, ◌<◌, ◌≤◌, ◌==◌, ◌||◌, Bool, true, false, not, bit_and, bit_xor, List, [], ◌∷◌, ◌++◌, length, length-append, length-set, get_or, take, replicate, refl, sym, ap, subst, ◌∙◌, inl, inr, arith}
 use Rattle.std.proofs.Common.{set as list_set}
-use Rattle.std.specs.Prelude.{Contains, Option, Some, None, IfSome, slice_get}
-use Rattle.std.proofs.lemmas.Bool.{and_parts, cases_eq, cases_lt, false≢true, not-true}
-use Rattle.std.proofs.lemmas.List.{get_or_append_left, get_or_push, get_or-set_other, get_or-replicate, length-replicate, take_all, take_more}
-use Rattle.std.proofs.lemmas.List.Elements.{Contains-push_cases}
-use Rattle.std.proofs.lemmas.Grind.{get_or-set_at}
+use Rattle.std.specs.Prelude.{All, Contains, Some, slice_get}
+use Rattle.std.proofs.lemmas.Bool.{and_parts, cases_eq, cases_lt, eqb-true, false≢true, not-false, not-true, or_parts, true_from_ne_false}
+use Rattle.std.proofs.lemmas.Grind.{get_or-set_at, same_number_lists}
+use Rattle.std.proofs.lemmas.List.{get_or_append_left, get_or_default, get_or_push, get_or-set_other, get_or-replicate, length-replicate, take_all, take_more}
+use Rattle.std.proofs.lemmas.List.Elements.{All-set, Contains-append_left, Contains-append_right, Contains-push_cases}
+use Rattle.std.proofs.lemmas.Option.{get_or_from_slice_get, slice_get_read, slice_get_within}
 use Rattle.lane_board.specs.Field.{Field}
 use Rattle.lane_board.specs.Lanes.{has_bit}
-use Rattle.lane_board.proofs.CallerLemmas.{has_bit-and_not}
-use Rattle.srs.proofs.CallerLemmas.{some_same}
+use Rattle.lane_board.proofs.CallerLemmas.{has_bit-and_not, has_bit-zero}
 use Rattle.well.specs.Well.{filled}
-use Rattle.empty_cells.specs.declared.empties.Empties.{Empties}
+use Rattle.hands.specs.declared.hand_set.HandSet.{HandSet}
+use Rattle.hands.specs.HandSets.{has}
+use Rattle.hands.specs.Numbers.{has_number}
+use Rattle.hands.proofs.CallerLemmas.{number-at}
 use Rattle.empty_cells.specs.Empties.{empty_cells}
 use Rattle.tiled_pieces.specs.declared.listed.ListedTiling.{ListedTiling}
 use Rattle.tiled_pieces.specs.Served.{IsServed}
 use Rattle.percent.specs.declared.building.Block.{Block}
-use Rattle.percent.specs.declared.building.Question.{Question}
+use Rattle.percent.specs.declared.game.Game.{Game}
 use Rattle.percent.specs.declared.marks.Mark.{Mark}
+use Rattle.percent.specs.declared.marks.Marks.{Marks}
 use Rattle.percent.specs.declared.position.Position.{Position}
-use Rattle.percent.specs.Building.{AreMarksFor, AreNoted, AreTested, IsBlock, IsEnough, IsHandOf, IsMarkFor, IsRefused}
-use Rattle.percent.specs.Fitting.{codes_in}
+use Rattle.percent.specs.Building.{AllListHands, AreCountsOf, AreGathered, AreTested, IsHandOf, IsRefused, IsUsedBy, StaysUsed}
+use Rattle.hands.specs.Weights.{AreNoted}
 use Rattle.percent.specs.GoodHands.{is_good}
-use Rattle.percent.specs.Marks.{HasMarkAt, IsTrueMark}
-use Rattle.percent.specs.Spread.{IsSpread}
-use Rattle.percent.proofs.ServedLemmas.{unserved-bad}
+use Rattle.percent.specs.ListedHands.{AllListHand, AreMarksOf, ListsHand}
+use Rattle.percent.specs.Marks.{HasCounts}
+use Rattle.percent.proofs.ServedLemmas.{built-serves, unserved-bad}
 
 -- ---- one tiling after the other
 
 -- a hand whose bit is set is not open, and none of the first i tilings serves it
 pub record Pending (list : List ListedTiling) (E : Field) (drops : Bool) (weights allowed : List ℕ) (open_hands pending i : ℕ) : Type 0 where
   pub closed : (k : ℕ) → has_bit pending k ≡ true → has_bit open_hands k ≡ false
-  pub none : (k : ℕ) → has_bit pending k ≡ true → (tiling : ListedTiling) → Contains (take i list) tiling → IsServed tiling E drops weights allowed k → ⊥
+  pub none : (k : ℕ) → k < 64 → has_bit pending k ≡ true → (tiling : ListedTiling) → Contains (take i list) tiling → IsServed tiling E drops weights allowed k → ⊥
 
 pub pending-starts : (list : List ListedTiling) (E : Field) (drops : Bool) (weights allowed : List ℕ) (all open_hands : ℕ) → Pending list E drops weights allowed open_hands (bit_xor all (bit_and all open_hands)) 0
 pending-starts list E drops weights allowed all open_hands = record {
   closed = λ k there. not-true (has_bit open_hands k) (and_parts (has_bit all k) (not (has_bit open_hands k)) (sym (has_bit-and_not all open_hands k) ∙ there)).1;
-  none = λ k there tiling listed. absurd (omega (arith, listed.1));
+  none = λ k few there tiling listed. absurd (omega (arith, listed.1));
 }
 
-pub pending-more : (list : List ListedTiling) (E : Field) (drops : Bool) (weights allowed : List ℕ) (open_hands pending i served : ℕ) (x : ListedTiling) → i < length list → x ≡ get_or list i x
-    → ((k : ℕ) → has_bit served k ≡ true ↔ ((has_bit pending k ≡ true) × IsServed x E drops weights allowed k))
+pub pending-more : (list : List ListedTiling) (E : Field) (drops : Bool) (weights allowed : List ℕ) (open_hands pending i asked served : ℕ) (x : ListedTiling) → i < length list → x ≡ get_or list i x
+    → ((k : ℕ) → k < 64 → has_bit pending k ≡ true → has_bit asked k ≡ true)
+    → ((k : ℕ) → has_bit served k ≡ true ↔ ((has_bit asked k ≡ true) × IsServed x E drops weights allowed k))
     → Pending list E drops weights allowed open_hands pending i → Pending list E drops weights allowed open_hands (bit_xor pending (bit_and pending served)) (i + 1)
-pending-more list E drops weights allowed open_hands pending i served x within at both state = record {
+pending-more list E drops weights allowed open_hands pending i asked served x within at wider both state = record {
   closed = λ k there. state.closed k (parts k there).0;
-  none = λ k there tiling listed is.
+  none = λ k few there tiling listed is.
       elim (Contains-push_cases (take i list) (get_or list i x) tiling (subst (λ l. Contains l tiling) (take_more list i x within) listed)) [
-        | inl before ↦ state.none k (parts k there).0 tiling before is
+        | inl before ↦ state.none k few (parts k there).0 tiling before is
         | inr here ↦
-            false≢true (sym (not-true (has_bit served k) (parts k there).1) ∙ (both k).1 ((parts k there).0, subst (λ t. IsServed t E drops weights allowed k) (sym (at ∙ here)) is))
+            false≢true (sym (not-true (has_bit served k) (parts k there).1) ∙ (both k).1 (wider k few (parts k there).0, subst (λ t. IsServed t E drops weights allowed k) (sym (at ∙ here)) is))
       ];
 }
   where
     parts : (k : ℕ) → has_bit (bit_xor pending (bit_and pending served)) k ≡ true → (has_bit pending k ≡ true) × (not (has_bit served k) ≡ true)
     parts k there = and_parts (has_bit pending k) (not (has_bit served k)) (sym (has_bit-and_not pending served k) ∙ there)
 
-pub pending-ends : (question : Question) (E : Field) (mark : Mark) (hands weights allowed : List ℕ) (open_hands pending i k : ℕ) → length mark.tilings.tilings.items ≤ i
-    → AreNoted question.game.hold question.left hands weights allowed open_hands (length hands)
-    → Pending mark.tilings.tilings.items E question.drops weights allowed open_hands pending i → k < length hands → has_bit pending k ≡ true → IsRefused question E mark (get_or hands k 0)
-pending-ends question E mark hands weights allowed open_hands pending i k all noted state within there = record {
+pub pending-ends : (marks : Marks) (mark : Mark) (left : ℕ) (hands weights allowed : List ℕ) (open_hands pending i k : ℕ) → length mark.tilings.tilings.items ≤ i → length hands ≤ 64
+    → AreNoted marks.game.hold left hands weights allowed open_hands (length hands)
+    → Pending mark.tilings.tilings.items (empty_cells marks.cells) marks.drops weights allowed open_hands pending i → k < length hands → has_bit pending k ≡ true → IsRefused marks left mark (get_or hands k 0)
+pending-ends marks mark left hands weights allowed open_hands pending i k all few noted state within there = record {
   weights = weights;
   allowed = allowed;
   bit = k;
   allows = noted.each k within (state.closed k there);
-  none = λ tiling listed. state.none k there tiling (subst (λ l. Contains l tiling) (sym (take_all i mark.tilings.tilings.items all)) listed);
+  none = λ tiling listed. state.none k (omega (arith, within, few)) there tiling (subst (λ l. Contains l tiling) (sym (take_all i mark.tilings.tilings.items all)) listed);
 }
+
+-- ---- tilings that are used
+
+-- of the first i tilings those that are not used serve no hand, and no hand is open
+pub record Using (list : List ListedTiling) (E : Field) (drops : Bool) (weights allowed : List ℕ) (open_hands : ℕ) (first used : List Bool) (i : ℕ) : Type 0 where
+  pub size : length used ≡ length list
+  pub stays : StaysUsed first used
+  pub unused : (j : ℕ) → j < i → (tiling : ListedTiling) → slice_get list j ≡ Some tiling → get_or used j false ≡ false
+      → (open_hands ≡ 0) × ((k : ℕ) → k < 64 → IsServed tiling E drops weights allowed k → ⊥)
+
+stays-same : (used : List Bool) → StaysUsed used used
+stays-same used = record { size = λ i. length used; each = λ j is. is }
+
+pub using-starts : (list : List ListedTiling) (E : Field) (drops : Bool) (weights allowed : List ℕ) (open_hands : ℕ) (used : List Bool) → length used ≡ length list → Using list E drops weights allowed open_hands used used 0
+using-starts list E drops weights allowed open_hands used size = record { size = size; stays = stays-same used; unused = λ j low. absurd (omega arith) }
+
+-- one tiling more
+pub using-more : (list : List ListedTiling) (E : Field) (drops : Bool) (weights allowed : List ℕ) (open_hands : ℕ) (first used : List Bool) (i asked served : ℕ) (was is_used now : Bool) (x : ListedTiling) → i < length list → x ≡ get_or list i x
+    → was ≡ get_or used i was → is_used ≡ (was || not (open_hands == 0)) → now ≡ (is_used || not (served == 0))
+    → (is_used ≡ false → (k : ℕ) → k < 64 → has_bit asked k ≡ true)
+    → ((k : ℕ) → has_bit served k ≡ true ↔ ((has_bit asked k ≡ true) × IsServed x E drops weights allowed k))
+    → Using list E drops weights allowed open_hands first used i → Using list E drops weights allowed open_hands first (list_set used i now) (i + 1)
+using-more list E drops weights allowed open_hands first used i asked served was is_used now x within at was_is is_used_is now_is all both state = record {
+  size = length-set used i now ∙ state.size;
+  stays = record {
+    size = length-set used i now ∙ state.stays.size;
+    each = λ j set. elim (cases_eq j i) [
+      | inl same ↦
+          let before : get_or used i false ≡ true = ap (λ n. get_or used n false) (sym same) ∙ state.stays.each j set in
+          get_or-set_at used i j now false same long
+          ∙ now_is ∙ ap (λ b. b || not (served == 0)) (is_used_is ∙ ap (λ b. b || not (open_hands == 0)) (was_is ∙ default was ∙ before))
+      | inr apart ↦ get_or-set_other used i j now false apart ∙ state.stays.each j set
+    ];
+  };
+  unused = λ j low tiling there unset. elim (cases_eq j i) [
+    | inl same ↦
+        let none = or_parts is_used (not (served == 0)) (sym now_is ∙ sym (get_or-set_at used i j now false same long) ∙ unset) in
+        let parts = or_parts was (not (open_hands == 0)) (sym is_used_is ∙ none.0) in
+        let here : x ≡ tiling = at ∙ ap (λ n. get_or list n x) (sym same) ∙ get_or_from_slice_get list j tiling x there in (
+          eqb-true open_hands 0 (not-false (open_hands == 0) parts.1),
+          λ k few is. false≢true (sym (ap (λ n. has_bit n k) (eqb-true served 0 (not-false (served == 0) none.1)) ∙ has_bit-zero k)
+              ∙ (both k).1 (all none.0 k few, subst (λ t. IsServed t E drops weights allowed k) (sym here) is)),
+        )
+    | inr apart ↦ state.unused j (omega (arith, low, apart)) tiling there (sym (get_or-set_other used i j now false apart) ∙ unset)
+  ];
+}
+  where
+    long : i < length used
+    long = let size = state.size in omega (arith, size, within)
+
+    default : (d : Bool) → get_or used i d ≡ get_or used i false
+    default d = get_or_default used i d false long
+
+-- so all that serve one of the hands are used
+pub using-ends : (marks : Marks) (mark : Mark) (left : ℕ) (hands weights allowed : List ℕ) (open_hands : ℕ) (first used : List Bool) (i k : ℕ) → length mark.tilings.tilings.items ≤ i → length hands ≤ 64
+    → AreNoted marks.game.hold left hands weights allowed open_hands (length hands)
+    → Using mark.tilings.tilings.items (empty_cells marks.cells) marks.drops weights allowed open_hands first used i → k < length hands
+    → IsUsedBy marks left mark.tilings.tilings.items used (get_or hands k 0)
+using-ends marks mark left hands weights allowed open_hands first used i k all few noted state within = record {
+  each = λ built j tiling there parts. true_from_ne_false (get_or used j false) (λ unset.
+      let none = state.unused j (let low = slice_get_within mark.tilings.tilings.items j tiling there in omega (arith, low, all)) tiling there unset in
+      let allows = noted.each k within (ap (λ n. has_bit n k) none.0 ∙ has_bit-zero k) in
+      none.1 k (omega (arith, within, few))
+      (built-serves (empty_cells marks.cells) marks.drops marks.game.hold left (get_or hands k 0) weights allowed k built tiling parts allows));
+}
+
+pub used-stays : (marks : Marks) (left hand : ℕ) (list : List ListedTiling) (old new : List Bool) → StaysUsed old new → IsUsedBy marks left list old hand → IsUsedBy marks left list new hand
+used-stays marks left hand list old new stays is = record { each = λ built j tiling there all. stays.each j (is.each built j tiling there all) }
 
 -- ---- hands that are refused
 
-pub refused-bad : (p : Position) (question : Question) (hand : ℕ) (rows : List ℕ) (cells : Empties) (mark : Mark) → IsSpread (filled p.well) p.rows rows (empty_cells cells)
-    → IsTrueMark (empty_cells cells) mark → IsEnough mark.counts question.left hand → IsRefused question (empty_cells cells) mark hand
-    → is_good question.game (filled p.well) p.rows question.left hand ≡ false
-refused-bad p question hand rows cells mark spread is enough refused =
-    unserved-bad question.game question.drops p question.left hand refused.bit rows refused.weights refused.allowed cells mark question.hard spread enough.each is refused.allows refused.none
+pub refused-bad : (marks : Marks) (left hand : ℕ) (mark : Mark) → HasCounts mark.counts left hand → ListsHand (empty_cells marks.cells) marks.drops marks.game.hold left hand mark → IsRefused marks left mark hand
+    → is_good marks.game (filled marks.position.well) marks.position.rows left hand ≡ false
+refused-bad marks left hand mark counts lists refused = unserved-bad marks left hand refused.bit refused.weights refused.allowed mark counts lists refused.allows refused.none
 
--- ---- blocks
+-- ---- hands that are gathered
 
-pub block-none : (mark : Mark) (left : ℕ) (hands : List ℕ) (block : Block) → block.len ≡ 0 → IsBlock mark left hands block
-block-none mark left hands block none = record { each = λ k below. absurd (omega (arith, none)) }
+pub gathered-starts : (marks : Marks) (mark : Mark) (left : ℕ) (hands : List ℕ) (block : Block) (used : List Bool) → block.len ≡ 0 → length used ≡ length mark.tilings.tilings.items → AreGathered marks mark left hands block used 0
+gathered-starts marks mark left hands block used none size = record {
+  size = size;
+  those = record { each = λ k below. absurd (omega (arith, none)) };
+  each = λ n low. absurd (omega arith);
+}
 
-pub block-more : (mark : Mark) (left : ℕ) (hands : List ℕ) (old new : Block) (index : ℕ) → old.len < 64 → new.len ≡ old.len + 1 → new.indexes ≡ list_set old.indexes old.len index
-    → IsHandOf mark left hands index → IsBlock mark left hands old → IsBlock mark left hands new
-block-more mark left hands old new index room long is here block = record {
-  each = λ k below. subst (λ l. IsHandOf mark left hands (get_or l k 0)) (sym is) (elim (cases_lt k old.len) [
-    | inl before ↦ subst (IsHandOf mark left hands) (sym (get_or-set_other old.indexes old.len k index 0 (λ same. absurd (omega (arith, same, before))))) (block.each k before)
-    | inr past ↦ subst (IsHandOf mark left hands) (sym (get_or-set_at old.indexes old.len k index 0 (omega (arith, below, long, past)) (omega (arith, room, old.size)))) here
+-- a hand with other pieces
+pub gathered-pass : (marks : Marks) (mark : Mark) (left : ℕ) (hands : List ℕ) (block : Block) (used : List Bool) (i : ℕ) → (HasCounts mark.counts left (get_or hands i 0) → ⊥)
+    → AreGathered marks mark left hands block used i → AreGathered marks mark left hands block used (i + 1)
+gathered-pass marks mark left hands block used i other state = record {
+  size = state.size;
+  those = state.those;
+  each = λ n low counts. elim (cases_lt n i) [
+    | inl before ↦ state.each n before counts
+    | inr past ↦ let same : n ≡ i = omega arith in absurd (other (subst (λ n. HasCounts mark.counts left (get_or hands n 0)) same counts))
+  ];
+}
+
+-- a block that is tested and emptied
+pub gathered-noted : (marks : Marks) (mark : Mark) (left : ℕ) (hands : List ℕ) (block next : Block) (old new : List Bool) (i : ℕ) → StaysUsed old new
+    → ((k : ℕ) → k < block.len → IsUsedBy marks left mark.tilings.tilings.items new (get_or hands (get_or block.indexes k 0) 0)) → next.len ≡ 0
+    → AreGathered marks mark left hands block old i → AreGathered marks mark left hands next new i
+gathered-noted marks mark left hands block next old new i stays used none state = record {
+  size = stays.size ∙ state.size;
+  those = record { each = λ k below. absurd (omega (arith, none)) };
+  each = λ n low counts. inr (elim (state.each n low counts) [
+    | inl here ↦ subst (λ n. IsUsedBy marks left mark.tilings.tilings.items new (get_or hands n 0)) here.here (used here.k here.low)
+    | inr before ↦ used-stays marks left (get_or hands n 0) mark.tilings.tilings.items old new stays before
   ]);
 }
 
+-- a hand more
+pub gathered-more : (marks : Marks) (mark : Mark) (left : ℕ) (hands : List ℕ) (old new : Block) (used : List Bool) (i : ℕ) → old.len < 64 → new.len ≡ old.len + 1 → new.indexes ≡ list_set old.indexes old.len i
+    → IsHandOf mark left hands i → AreGathered marks mark left hands old used i → AreGathered marks mark left hands new used (i + 1)
+gathered-more marks mark left hands old new used i room long is here state = record {
+  size = state.size;
+  those = record {
+    each = λ k below. elim (cases_lt k old.len) [
+      | inl before ↦ subst (IsHandOf mark left hands) (sym (kept k before)) (state.those.each k before)
+      | inr past ↦ subst (IsHandOf mark left hands) (sym (last k (omega (arith, below, long, past)))) here
+    ];
+  };
+  each = λ n low counts. elim (cases_lt n i) [
+    | inr past ↦ inl (record { k = old.len; low = omega (arith, long); here = let same : i ≡ n = omega arith in last old.len (λ j. old.len) ∙ same })
+    | inl before ↦ elim (state.each n before counts) [
+      | inl there ↦ inl (record { k = there.k; low = let low = there.low in omega (arith, long, low); here = kept there.k there.low ∙ there.here })
+      | inr used ↦ inr used
+    ]
+  ];
+}
+  where
+    kept : (k : ℕ) → k < old.len → get_or new.indexes k 0 ≡ get_or old.indexes k 0
+    kept k before = ap (λ l. get_or l k 0) is ∙ get_or-set_other old.indexes old.len k i 0 (λ same. absurd (omega (arith, same, before)))
+
+    last : (k : ℕ) → k ≡ old.len → get_or new.indexes k 0 ≡ i
+    last k same = ap (λ l. get_or l k 0) is ∙ get_or-set_at old.indexes old.len k i 0 same (omega (arith, room, old.size))
+
+-- all hands are gathered, and the last block is tested
+pub gathered-ends : (marks : Marks) (mark : Mark) (left : ℕ) (hands : List ℕ) (block : Block) (old new : List Bool) (i n : ℕ) → length hands ≤ i → StaysUsed old new
+    → ((k : ℕ) → k < block.len → IsUsedBy marks left mark.tilings.tilings.items new (get_or hands (get_or block.indexes k 0) 0))
+    → AreGathered marks mark left hands block old i → n < length hands → HasCounts mark.counts left (get_or hands n 0)
+    → IsUsedBy marks left mark.tilings.tilings.items new (get_or hands n 0)
+gathered-ends marks mark left hands block old new i n all stays used state within counts = elim (state.each n (omega (arith, all, within)) counts) [
+  | inl here ↦ subst (λ n. IsUsedBy marks left mark.tilings.tilings.items new (get_or hands n 0)) here.here (used here.k here.low)
+  | inr before ↦ used-stays marks left (get_or hands n 0) mark.tilings.tilings.items old new stays before
+]
+
 -- ---- hands that are tested
 
-pub tested-starts : (p : Position) (question : Question) (hands : List ℕ) (may : List Bool) → may ≡ replicate (length hands) true → AreTested p question hands may
-tested-starts p question hands may all = record {
+pub tested-starts : (game : Game) (p : Position) (left : ℕ) (hands : List ℕ) (may : List Bool) → may ≡ replicate (length hands) true → AreTested game p left hands may
+tested-starts game p left hands may all = record {
   size = ap length all ∙ length-replicate (length hands) true;
   each = λ k below none. absurd (false≢true (sym none ∙ ap (λ l. get_or l k true) all ∙ get_or-replicate (length hands) k true true below));
 }
 
 -- a hand that is bad
-pub tested-bad : (p : Position) (question : Question) (hands : List ℕ) (may : List Bool) (index : ℕ) → index < length hands
-    → is_good question.game (filled p.well) p.rows question.left (get_or hands index 0) ≡ false → AreTested p question hands may → AreTested p question hands (list_set may index false)
-tested-bad p question hands may index within bad state = record {
+pub tested-bad : (game : Game) (p : Position) (left : ℕ) (hands : List ℕ) (may : List Bool) (index : ℕ) → index < length hands
+    → is_good game (filled p.well) p.rows left (get_or hands index 0) ≡ false → AreTested game p left hands may → AreTested game p left hands (list_set may index false)
+tested-bad game p left hands may index within bad state = record {
   size = length-set may index false ∙ state.size;
   each = λ k below none. elim (cases_eq k index) [
-    | inl same ↦ ap (λ n. is_good question.game (filled p.well) p.rows question.left (get_or hands n 0)) same ∙ bad
+    | inl same ↦ ap (λ n. is_good game (filled p.well) p.rows left (get_or hands n 0)) same ∙ bad
     | inr apart ↦ state.each k below (sym (get_or-set_other may index k false true apart) ∙ none)
   ];
 }
 
--- ---- the marks of hands
+-- ---- the counts of hands
 
--- an index for each of the first i hands
-pub record AreMarksBefore (known : List Mark) (left : ℕ) (hands : List ℕ) (indexes : List (Option ℕ)) (i : ℕ) : Type 0 where
-  pub size : length indexes ≡ i
-  pub each : (k : ℕ) → k < i → IfSome (get_or indexes k None) (IsMarkFor known left (get_or hands k 0))
+-- those of the first i hands
+pub record AreCountsBefore (left : ℕ) (hands : List ℕ) (counts : List (List ℕ)) (i : ℕ) : Type 0 where
+  pub size : length counts ≡ i
+  pub each : (k : ℕ) → k < i → HasCounts (get_or counts k []) left (get_or hands k 0)
 
-pub marks-start : (known : List Mark) (left : ℕ) (hands : List ℕ) (indexes : List (Option ℕ)) → indexes ≡ [] → AreMarksBefore known left hands indexes 0
-marks-start known left hands indexes nil = record { size = ap length nil; each = λ k low. absurd (omega arith) }
+pub counts-start : (left : ℕ) (hands : List ℕ) (counts : List (List ℕ)) → counts ≡ [] → AreCountsBefore left hands counts 0
+counts-start left hands counts nil = record { size = ap length nil; each = λ k low. absurd (omega arith) }
 
-pub marks-more : (known : List Mark) (left : ℕ) (hands : List ℕ) (indexes : List (Option ℕ)) (i : ℕ) (index : Option ℕ) → AreMarksBefore known left hands indexes i
-    → IfSome index (IsMarkFor known left (get_or hands i 0)) → AreMarksBefore known left hands (indexes ++ index ∷ []) (i + 1)
-marks-more known left hands indexes i index state here = record {
-  size = let long = length-append indexes (index ∷ []) in let size = state.size in omega (arith, long, size);
+pub counts-more : (left : ℕ) (hands : List ℕ) (counts : List (List ℕ)) (more : List ℕ) (i : ℕ) → HasCounts more left (get_or hands i 0)
+    → AreCountsBefore left hands counts i → AreCountsBefore left hands (counts ++ more ∷ []) (i + 1)
+counts-more left hands counts more i here state = record {
+  size = let long = length-append counts (more ∷ []) in let size = state.size in omega (arith, long, size);
   each = λ k low. elim (cases_lt k i) [
     | inl before ↦
-        let old = get_or_append_left indexes (index ∷ []) None k (let size = state.size in omega (arith, size)) in
-        subst (λ (o : Option ℕ). IfSome o (IsMarkFor known left (get_or hands k 0))) (sym old) (state.each k before)
+        let old = get_or_append_left counts (more ∷ []) [] k (let size = state.size in omega (arith, size)) in
+        subst (λ c. HasCounts c left (get_or hands k 0)) (sym old) (state.each k before)
     | inr past ↦
         let last : k ≡ i = omega arith in
-        let new = get_or_push indexes index None k (state.size ∙ sym last) in
-        subst (λ (o : Option ℕ). IfSome o (IsMarkFor known left (get_or hands k 0))) (sym new)
-        (subst (λ j. IfSome index (IsMarkFor known left (get_or hands j 0))) (sym last) here)
+        let new = get_or_push counts more [] k (state.size ∙ sym last) in
+        subst (λ c. HasCounts c left (get_or hands k 0)) (sym new) (subst (λ j. HasCounts more left (get_or hands j 0)) (sym last) here)
   ];
 }
 
-pub marks-end : (known : List Mark) (left : ℕ) (hands : List ℕ) (indexes : List (Option ℕ)) (i : ℕ) → i ≡ length hands → AreMarksBefore known left hands indexes i → AreMarksFor known left hands indexes
-marks-end known left hands indexes i all state = record { size = state.size ∙ all; each = λ k below. state.each k (omega (arith, all, below)) }
+pub counts-end : (left : ℕ) (hands : List ℕ) (counts : List (List ℕ)) (i : ℕ) → i ≡ length hands → AreCountsBefore left hands counts i → AreCountsOf left hands counts
+counts-end left hands counts i all state = record { size = state.size ∙ all; each = λ k below. state.each k (omega (arith, all, below)) }
 
--- the mark of the counts of a hand
-pub mark-for : (known : List Mark) (left hand : ℕ) (counts : List ℕ) (index : Option ℕ) → ((code : ℕ) → code < 8 → get_or counts code 0 ≡ codes_in (left + 1) hand code)
-    → IfSome index (λ p. HasMarkAt known p counts) → IfSome index (IsMarkFor known left hand)
-mark-for known left hand counts None same there = there
-mark-for known left hand counts (Some index) same there = record { counts = counts; there = there; enough = record { each = λ code few. let equal = same code few in omega (arith, equal) } }
+-- a hand whose counts are those of a mark
+pub hand-of : (mark : Mark) (left : ℕ) (hands : List ℕ) (counts : List (List ℕ)) (at : ℕ) → AreCountsOf left hands counts → at < length hands → get_or counts at [] ≡ mark.counts → IsHandOf mark left hands at
+hand-of mark left hands counts at are within same = record { within = within; counts = subst (λ c. HasCounts c left (get_or hands at 0)) same (are.each at within) }
 
--- the mark at the known index of a hand
-pub mark-here : (known : List Mark) (left : ℕ) (hands : List ℕ) (indexes : List (Option ℕ)) (at index : ℕ) (mark : Mark) → AreMarksFor known left hands indexes → at < length hands → get_or indexes at None ≡ Some index
-    → slice_get known index ≡ Some mark → IsHandOf mark left hands at
-mark-here known left hands indexes at index mark are within is there =
-    let found : IsMarkFor known left (get_or hands at 0) index = subst (λ (o : Option ℕ). IfSome o (IsMarkFor known left (get_or hands at 0))) is (are.each at within) in
-    let one : found.there.mark ≡ mark = some_same (sym found.there.there ∙ there) in
-    record {
-      within = within;
-      enough = subst (λ counts. IsEnough counts left (get_or hands at 0)) (sym found.there.same ∙ ap (λ (m : Mark). m.counts) one) found.enough;
-    }
+-- and no other has them
+pub same-counts : (left hand : ℕ) (a b : List ℕ) → HasCounts a left hand → HasCounts b left hand → a ≡ b
+same-counts left hand a b first second = same_number_lists a b (first.size ∙ sym second.size) (λ k low. let few : k < 8 = omega (arith, low, first.size) in first.each k few ∙ sym (second.each k few))
+
+-- ---- the tilings that stay
+
+-- a list has those of the first i tilings that are used
+pub record HasUsed (list : List ListedTiling) (used : List Bool) (kept : List ListedTiling) (i : ℕ) : Type 0 where
+  pub each : (j : ℕ) → j < i → (tiling : ListedTiling) → slice_get list j ≡ Some tiling → get_or used j false ≡ true → Contains kept tiling
+
+pub has_used-starts : (list : List ListedTiling) (used : List Bool) (kept : List ListedTiling) → HasUsed list used kept 0
+has_used-starts list used kept = record { each = λ j low. absurd (omega arith) }
+
+pub has_used-more : (list : List ListedTiling) (used : List Bool) (kept : List ListedTiling) (i : ℕ) (x : ListedTiling) → x ≡ get_or list i x → HasUsed list used kept i → HasUsed list used (kept ++ x ∷ []) (i + 1)
+has_used-more list used kept i x at state = record {
+  each = λ j low tiling there set. elim (cases_lt j i) [
+    | inl before ↦ Contains-append_left kept (x ∷ []) tiling (state.each j before tiling there set)
+    | inr past ↦
+        let same : j ≡ i = omega arith in
+        let here : x ≡ tiling = at ∙ ap (λ n. get_or list n x) (sym same) ∙ get_or_from_slice_get list j tiling x there in
+        subst (Contains (kept ++ x ∷ [])) here (Contains-append_right kept (x ∷ []) x (0, omega arith, refl))
+  ];
+}
+
+pub has_used-pass : (list : List ListedTiling) (used : List Bool) (kept : List ListedTiling) (i : ℕ) → get_or used i false ≡ false → HasUsed list used kept i → HasUsed list used kept (i + 1)
+has_used-pass list used kept i unset state = record {
+  each = λ j low tiling there set. elim (cases_lt j i) [
+    | inl before ↦ state.each j before tiling there set
+    | inr past ↦ let same : j ≡ i = omega arith in absurd (false≢true (sym unset ∙ ap (λ n. get_or used n false) (sym same) ∙ set))
+  ];
+}
+
+pub has_used-ends : (list : List ListedTiling) (used : List Bool) (kept : List ListedTiling) (i : ℕ) → length list ≤ i → HasUsed list used kept i
+    → (j : ℕ) (tiling : ListedTiling) → slice_get list j ≡ Some tiling → get_or used j false ≡ true → Contains kept tiling
+has_used-ends list used kept i all state j tiling there set = state.each j (let low = slice_get_within list j tiling there in omega (arith, low, all)) tiling there set
+
+-- ---- marks with fewer tilings
+
+-- a mark lists those by which the hands are built if it keeps those that are used
+fewer-lists : (marks : Marks) (left hand : ℕ) (used : List Bool) (old new : Mark) → new.counts ≡ old.counts
+    → ((j : ℕ) (tiling : ListedTiling) → slice_get old.tilings.tilings.items j ≡ Some tiling → get_or used j false ≡ true → Contains new.tilings.tilings.items tiling)
+    → (HasCounts old.counts left hand → IsUsedBy marks left old.tilings.tilings.items used hand)
+    → ListsHand (empty_cells marks.cells) marks.drops marks.game.hold left hand old → ListsHand (empty_cells marks.cells) marks.drops marks.game.hold left hand new
+fewer-lists marks left hand used old new same keeps is_used lists = record {
+  each = λ counts built none.
+      let counted : HasCounts old.counts left hand = subst (λ c. HasCounts c left hand) same counts in
+      lists.each counted built (λ has.
+      let there = slice_get_read old.tilings.tilings.items (length old.tilings.tilings.items) has.listed.0 has.tiling refl has.listed.1 (sym has.listed.2) in
+      none (record { tiling = has.tiling; listed = keeps has.listed.0 has.tiling there ((is_used counted).each built has.listed.0 has.tiling there has.all); all = has.all }));
+}
+
+pub narrowed : (marks : Marks) (left : ℕ) (hands : List ℕ) (index : ℕ) (used : List Bool) (old new : Mark) → index < length marks.known.items → old ≡ get_or marks.known.items index old → new.counts ≡ old.counts
+    → ((j : ℕ) (tiling : ListedTiling) → slice_get old.tilings.tilings.items j ≡ Some tiling → get_or used j false ≡ true → Contains new.tilings.tilings.items tiling)
+    → ((n : ℕ) → n < length hands → HasCounts old.counts left (get_or hands n 0) → IsUsedBy marks left old.tilings.tilings.items used (get_or hands n 0))
+    → AllListHands marks left hands
+    → (n : ℕ) → n < length hands → All (ListsHand (empty_cells marks.cells) marks.drops marks.game.hold left (get_or hands n 0)) (list_set marks.known.items index new)
+narrowed marks left hands index used old new within at same keeps is_used all n low =
+    let Holds : Mark → Type 0 = ListsHand (empty_cells marks.cells) marks.drops marks.game.hold left (get_or hands n 0) in
+    All-set Holds marks.known.items index new (fewer-lists marks left (get_or hands n 0) used old new same keeps (is_used n low) (subst Holds (sym at) (all.each n low index old within))) (all.each n low)
+
+-- the marks are those of some of the hands
+pub lists-of : (marks : Marks) (left : ℕ) (hands likely : HandSet) (numbers : List ℕ) → ((hand : ℕ) → has_number numbers hand ≡ has hands hand) → ((hand : ℕ) → has likely hand ≡ true → has hands hand ≡ true)
+    → AllListHands marks left numbers → AreMarksOf marks left (has likely)
+lists-of marks left hands likely numbers are fewer all = record {
+  each = λ hand there.
+      let at = number-at numbers hand (are hand ∙ fewer hand there) in
+      subst (AllListHand marks left) at.2 (all.each at.0 at.1);
+}

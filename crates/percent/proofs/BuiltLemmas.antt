@@ -39,7 +39,8 @@ use Rattle.tiled_pieces.proofs.CallerLemmas.{LiesIn, left_by_part}
 use Rattle.percent.specs.declared.game.Game.{Game}
 use Rattle.tiled_pieces.specs.Built.{AreBuilt, Fits, IsGone, Rests}
 use Rattle.tiled_pieces.specs.Served.{left_by}
-use Rattle.percent.specs.BuiltHands.{IsBuiltBy, IsHardSrs, takes_all}
+use Rattle.percent.specs.BuiltHands.{IsBuiltBy, IsHardSrs}
+use Rattle.hands.specs.Hands.{takes_all}
 use Rattle.percent.specs.Fitting.{supply_at}
 use Rattle.percent.specs.GoodHands.{is_good, reached_places}
 use Rattle.hands.specs.Hands.{takes}
@@ -104,7 +105,7 @@ module _ (F : Field) (height : ℕ) (rows : List ℕ) (E : Field) (spread : IsSp
       let column = at.column in
       ap (E x) (sym at.sent) ∙ spread.same x at.row (omega arith) at.low ∙ ap not at.empty
 
-  pub unbroken : (x y u v z : ℕ) → sent_cells rows q x y ≡ true → sent_cells rows q u v ≡ true → y < z → z < v → IsGone (sent_cells rows q) z → IsGone E z
+  unbroken : (x y u v z : ℕ) → sent_cells rows q x y ≡ true → sent_cells rows q u v ≡ true → y < z → z < v → IsGone (sent_cells rows q) z → IsGone E z
   unbroken x y u v z has_low has_high above under none t = false_from_ne_true (E t z) (λ here.
       let low = laid_at x y has_low in
       let high = laid_at u v has_high in
@@ -283,25 +284,33 @@ left_is : (E : Field) (part : Part) → all_but (left_by_part E part) ≡ with_c
 unfolding all_but difference with_cells
 left_is E part = sym (fun_ext (λ a. fun_ext (λ b. not_without (E a b) (is_among part.cells (pos a, pos b)))))
 
+-- a hand builds a set by a tiling that begins with a part
+pub record BuiltFirst (E : Field) (drops : Bool) (hold : Hold) (left hand : ℕ) (part : Part) (parts : List Part) : Type 0 where
+  pub built : IsBuiltBy E drops hold left hand
+  pub parts_are : built.tiling.parts ≡ part ∷ parts
+
 -- one piece more is built first
 first-built : (E : Field) (rows : List ℕ) (q : Placement) (drops : Bool) (hold : Hold) (left hand rest : ℕ) → LiesIn E (λ piece. 1) (sent_part rows q) → IsRest (suc left) hand (piece_code q.piece) rest
     → Fits E drops (laid rows q) → ((goes_on : ℕ → Bool) → goes_on rest ≡ true → takes hold (piece_code q.piece) goes_on hand ≡ true)
-    → IsBuiltBy (difference E (sent_cells rows q)) drops hold left rest → IsBuiltBy E drops hold (suc left) hand
+    → (later : IsBuiltBy (difference E (sent_cells rows q)) drops hold left rest) → BuiltFirst E drops hold (suc left) hand (sent_part rows q) later.tiling.parts
 unfolding AreBuilt left_by takes_all
 first-built E rows q drops hold left hand rest lies is fits taken later = record {
-  tiling = record {
-    parts = with.tiling.parts;
-    generalized = with.tiling.generalized;
-    covered = with.tiling.covered;
-    supplied = λ other. omega (arith, with.tiling.supplied other, rest-supplied (suc left) hand rest q.piece is other);
+  built = record {
+    tiling = record {
+      parts = with.tiling.parts;
+      generalized = with.tiling.generalized;
+      covered = with.tiling.covered;
+      supplied = λ other. omega (arith, with.tiling.supplied other, rest-supplied (suc left) hand rest q.piece is other);
+    };
+    size = ap length with.parts_are ∙ ap suc later.size;
+    built = subst (λ (parts : List Part). AreBuilt E drops (map laid_part parts)) (sym with.parts_are)
+        (subst (λ (laid : LaidPiece). Fits E drops laid × AreBuilt (difference E laid.cells) drops more) (sym (laid-sent rows q)) (fits, later.built));
+    uses_up = subst (λ (parts : List Part). HasNoCell (left_by E (map laid_part parts))) (sym with.parts_are)
+        (subst (λ (laid : LaidPiece). HasNoCell (left_by (difference E laid.cells) more)) (sym (laid-sent rows q)) later.uses_up);
+    taken = subst (λ (parts : List Part). takes_all hold hand (map (λ (part : Part). part.piece) parts) ≡ true) (sym with.parts_are)
+        (taken (λ rest. takes_all hold rest (map (λ (part : Part). part.piece) later.tiling.parts)) later.taken);
   };
-  size = ap length with.parts_are ∙ ap suc later.size;
-  built = subst (λ (parts : List Part). AreBuilt E drops (map laid_part parts)) (sym with.parts_are)
-      (subst (λ (laid : LaidPiece). Fits E drops laid × AreBuilt (difference E laid.cells) drops more) (sym (laid-sent rows q)) (fits, later.built));
-  uses_up = subst (λ (parts : List Part). HasNoCell (left_by E (map laid_part parts))) (sym with.parts_are)
-      (subst (λ (laid : LaidPiece). HasNoCell (left_by (difference E laid.cells) more)) (sym (laid-sent rows q)) later.uses_up);
-  taken = subst (λ (parts : List Part). takes_all hold hand (map (λ (part : Part). part.piece) parts) ≡ true) (sym with.parts_are)
-      (taken (λ rest. takes_all hold rest (map (λ (part : Part). part.piece) later.tiling.parts)) later.taken);
+  parts_are = with.parts_are;
 }
   where
     part : Part
@@ -320,6 +329,19 @@ first-built E rows q drops hold left hand rest lies is fits taken later = record
       covered = subst (λ (F : Field). (cell : Cell) → covers later.tiling.parts cell ≡ cond (is_empty_below F 8 cell) 1 0) covered_part later.tiling.covered;
       supplied = later.tiling.supplied;
     })
+
+-- so is a place after which a rest of the hand builds what is left
+pub place-built : (game : Game) (drops : Bool) (F : Field) (height left hand rest : ℕ) (rows : List ℕ) (E : Field) (q : Placement) → (drops ≡ true → IsHardSrs game)
+    → height ≤ 8 → IsLow F height → HasOpenRows F height → IsSmall 8 E → IsSpread F height rows E
+    → IsPlace (table_of game.rules) F game.drop_mode q → is_below height q ≡ true → IsRest (suc left) hand (piece_code q.piece) rest
+    → ((goes_on : ℕ → Bool) → goes_on rest ≡ true → takes game.hold (piece_code q.piece) goes_on hand ≡ true)
+    → (later : IsBuiltBy (difference E (sent_cells rows q)) drops game.hold left rest) → BuiltFirst E drops game.hold (suc left) hand (sent_part rows q) later.tiling.parts
+place-built game drops F height left hand rest rows E q hard few low opens small spread place below is taken later =
+    let free = place-free (table_of game.rules) F game.drop_mode q place in
+    first-built E rows q drops game.hold left hand rest (lies F q height rows E (λ piece. 1) few small spread free below (omega arith)) is
+    (fits F height rows E spread q free below drops opens (place-stands (table_of game.rules) F game.drop_mode q place)
+    (λ must. let hard = hard must in sky-clear F height q (omega arith) low.none (subst (λ (m : DropMode). IsPlace srs_table F m q) hard.mode (subst (λ (T : Table). IsPlace T F game.drop_mode q) hard.table place))))
+    taken later
 
 -- a good hand builds what is empty
 pub good-built : (game : Game) (drops : Bool) (F : Field) (height left hand : ℕ) (rows : List ℕ) (E : Field) → (drops ≡ true → IsHardSrs game)
@@ -342,11 +364,9 @@ good-built game drops F height (suc left) hand rows E hard few low opens small s
     let next = after F height E rows q few low small spread free parts.0 in
     let later = good-built game drops (locked F q) (height - rows_removed F q) left way.0 next.kept (difference E (sent_cells rows q)) hard
     (omega arith) (locked-low F height q low parts.0 free) next.opens (less-small E (sent_cells rows q) small) next.spread parts.1 in
-    first-built E rows q drops game.hold left hand way.0 (lies F q height rows E (λ piece. 1) few small spread free parts.0 (omega arith))
+    (place-built game drops F height left hand way.0 rows E q hard few low opens small spread place parts.0
     (subst (λ p. IsRest (suc left) hand (piece_code p) way.0) of_kind way.2)
-    (fits F height rows E spread q free parts.0 drops opens (place-stands (table_of game.rules) F game.drop_mode q place)
-    (λ must. let is = hard must in sky-clear F height q (omega arith) low.none (subst (λ (m : DropMode). IsPlace srs_table F m q) is.mode (subst (λ (T : Table). IsPlace T F game.drop_mode q) is.table place))))
-    (subst (λ p. (goes_on : ℕ → Bool) → goes_on way.0 ≡ true → takes game.hold (piece_code p) goes_on hand ≡ true) of_kind way.3) later
+    (subst (λ p. (goes_on : ℕ → Bool) → goes_on way.0 ≡ true → takes game.hold (piece_code p) goes_on hand ≡ true) of_kind way.3) later).built
 
 -- so it does in the rows of its own field
 pub good-own : (game : Game) (drops : Bool) (F : Field) (height left hand : ℕ) → (drops ≡ true → IsHardSrs game) → height ≤ 8 → LiesBelow F height → HasOpenRows F height

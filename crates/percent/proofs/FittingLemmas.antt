@@ -4,7 +4,7 @@ use Rattle.std.proofs.Common.{set as list_set, slice_index}
 use Rattle.std.proofs.Math.Path.{fun_ext}
 use Rattle.std.proofs.lemmas.List.{get_or-set_other}
 use Rattle.std.proofs.lemmas.Grind.{get_or-set_at}
-use Rattle.std.proofs.lemmas.Bool.{cases_eq, false_from_ne_true, eqb-true}
+use Rattle.std.proofs.lemmas.Bool.{cases_eq, false_from_ne_true, eqb-true, false≢true, or_left}
 use Rattle.std.proofs.lemmas.Bool.Decides.{nat_tests}
 use Rattle.lane_board.specs.Field.{difference, rows_below}
 use Rattle.srs.specs.declared.piece.Piece.{Piece}
@@ -17,9 +17,9 @@ use Rattle.empty_cells.specs.declared.empties.Empties.{Empties}
 use Rattle.empty_cells.specs.Empties.{all_but, empty_cells}
 use Rattle.empty_cells.proofs.CallerLemmas.{tiling_below}
 use Rattle.hands.specs.declared.hand_set.HandSet.{HandSet}
-use Rattle.hands.specs.HandSets.{has, in_order}
-use Rattle.hands.specs.Rising.{has_number}
-use Rattle.hands.proofs.CallerLemmas.{has-all, has-in_order, has-more, has-none}
+use Rattle.hands.specs.HandSets.{has}
+use Rattle.hands.specs.Numbers.{has_number}
+use Rattle.hands.proofs.CallerLemmas.{has-all, has-more, has-none, has-there}
 use Rattle.problem.proofs.CallerLemmas.{IsLow}
 use Rattle.percent.specs.declared.game.Game.{Game}
 use Rattle.percent.specs.declared.position.Position.{Position}
@@ -54,9 +54,13 @@ unfit game p cells counts left hand count one cells_are most none =
 -- ---- the hands that are kept
 
 -- where no hand is good none need be kept
-pub none-kept : (v hands : HandSet) (good : ℕ → Bool) → ((hand : ℕ) → has hands hand ≡ true → good hand ≡ false) → ((hand : ℕ) → has v hand ≡ false)
-    → (hand : ℕ) → (has v hand && good hand) ≡ (has hands hand && good hand)
-none-kept v hands good bad none hand = search rules
+pub none-kept : (v : HandSet) (asked good : ℕ → Bool) → ((hand : ℕ) → asked hand ≡ true → good hand ≡ false) → ((hand : ℕ) → has v hand ≡ false)
+    → (hand : ℕ) → (has v hand && good hand) ≡ (asked hand && good hand)
+none-kept v asked good bad none hand = search rules
+
+-- a set has each hand of its list
+pub has-listed : (set : HandSet) (hands : List ℕ) (i : ℕ) → ((hand : ℕ) → has_number hands hand ≡ has set hand) → i < length hands → has set (get_or hands i 0) ≡ true
+has-listed set hands i listed within = sym (listed (get_or hands i 0)) ∙ has-there hands i (get_or hands i 0) within refl
 
 -- of the first i hands those that are good are kept
 pub record Sifting (good : Game → ℕ → Bool) (hands : List ℕ) (v : HandSet) (i : ℕ) : Type 0 where
@@ -89,11 +93,32 @@ sift-pass good hands v i state in_hands bad = record {
       ∙ ap (λ b. b && good game hand) (sym (has-more hands i hand in_hands));
 }
 
-pub sift-ends : (good : Game → ℕ → Bool) (set : HandSet) (hands : List ℕ) (v : HandSet) (i : ℕ) → hands ≡ in_order set → length hands ≤ i → Sifting good hands v i
-    → (game : Game) (hand : ℕ) → (has v hand && good game hand) ≡ (has set hand && good game hand)
-sift-ends good set hands v i listed all state game hand =
-    state.members game hand
-    ∙ ap (λ b. b && good game hand) (has-all hands i hand all ∙ ap (λ l. has_number l hand) listed ∙ sym (has-in_order set hand))
+pub sift-ends : (good : Game → ℕ → Bool) (asked : ℕ → Bool) (hands : List ℕ) (v : HandSet) (i : ℕ) → ((hand : ℕ) → has_number hands hand ≡ asked hand) → length hands ≤ i → Sifting good hands v i
+    → (game : Game) (hand : ℕ) → (has v hand && good game hand) ≡ (asked hand && good game hand)
+sift-ends good asked hands v i listed all state game hand =
+    state.members game hand ∙ ap (λ b. b && good game hand) (has-all hands i hand all ∙ listed hand)
+
+-- and no other hand is
+pub record Among (hands : List ℕ) (v : HandSet) (i : ℕ) : Type 0 where
+  pub members : (hand : ℕ) → has v hand ≡ true → has_number (take i hands) hand ≡ true
+
+pub among-starts : (hands : List ℕ) (v : HandSet) → ((hand : ℕ) → has v hand ≡ false) → Among hands v 0
+among-starts hands v none = record { members = λ hand there. absurd (false≢true (sym (none hand) ∙ there)) }
+
+pub among-push : (hands : List ℕ) (v more : HandSet) (i : ℕ) → Among hands v i → i < length hands
+    → ((other : ℕ) → has more other ≡ (has v other || get_or hands i 0 == other)) → Among hands more (i + 1)
+among-push hands v more i state within more_is = record {
+  members = λ hand there. has-more hands i hand within ∙ wider (has v hand) (has_number (take i hands) hand) (get_or hands i 0 == hand) (state.members hand) (sym (more_is hand) ∙ there);
+}
+  where
+    wider : (a b e : Bool) → (a ≡ true → b ≡ true) → (a || e) ≡ true → (b || e) ≡ true
+    wider a b e more there = search rules
+
+pub among-pass : (hands : List ℕ) (v : HandSet) (i : ℕ) → Among hands v i → i < length hands → Among hands v (i + 1)
+among-pass hands v i state within = record { members = λ hand there. has-more hands i hand within ∙ or_left (has_number (take i hands) hand) (get_or hands i 0 == hand) (state.members hand there) }
+
+pub among-ends : (asked : ℕ → Bool) (hands : List ℕ) (v : HandSet) (i : ℕ) → ((hand : ℕ) → has_number hands hand ≡ asked hand) → length hands ≤ i → Among hands v i → (hand : ℕ) → has v hand ≡ true → asked hand ≡ true
+among-ends asked hands v i listed all state hand there = sym (listed hand) ∙ sym (has-all hands i hand all) ∙ state.members hand there
 
 -- ---- the greatest counts
 
@@ -121,10 +146,9 @@ cover-more hands counts more next pieces i state in_hands more_is first second =
         let equal = ap (λ n. codes_in pieces n code) same in
         omega (arith, equal)
 
-pub cover-ends : (set : HandSet) (hands counts : List ℕ) (pieces i : ℕ) → hands ≡ in_order set → length hands ≤ i → Covering hands counts pieces i
-    → (hand : ℕ) → has set hand ≡ true → (code : ℕ) → code < 8 → codes_in pieces hand code ≤ get_or counts code 0
-cover-ends set hands counts pieces i listed all state hand there =
-    state.each hand (has-all hands i hand all ∙ ap (λ l. has_number l hand) listed ∙ sym (has-in_order set hand) ∙ there)
+pub cover-ends : (hands counts : List ℕ) (pieces i : ℕ) → length hands ≤ i → Covering hands counts pieces i
+    → (hand : ℕ) → has_number hands hand ≡ true → (code : ℕ) → code < 8 → codes_in pieces hand code ≤ get_or counts code 0
+cover-ends hands counts pieces i all state hand there = state.each hand (has-all hands i hand all ∙ there)
 
 -- ---- counts one by one
 

@@ -3,7 +3,7 @@ use Rattle.std.proofs.Common.{◌≡◌, ℕ, nat_lt, Bool, true, false, ◌&&�
 use Rattle.std.specs.Prelude.{IfSome, slice_get}
 use Rattle.std.proofs.lemmas.List.Sums.{get_or-le-sum_by, sum_by-le, sum_by-set}
 use Rattle.std.proofs.Math.Path.{fun_ext}
-use Rattle.std.proofs.lemmas.Bool.{cases_Bool, cases_lt, and_from, lt-ltb}
+use Rattle.std.proofs.lemmas.Bool.{both_ways, cases_Bool, cases_lt, and_from, lt-ltb}
 use Rattle.std.proofs.lemmas.Option.{get_or_from_slice_get, slice_get_within}
 use Rattle.fact_table.specs.Entries.{slot_in, with_entry}
 use Rattle.fact_table.proofs.CallerLemmas.{facts-entry, facts-none}
@@ -12,13 +12,13 @@ use Rattle.well.specs.Well.{filled}
 use Rattle.well.proofs.CallerLemmas.{filled-within}
 use Rattle.hands.specs.declared.hand_set.HandSet.{HandSet}
 use Rattle.hands.specs.HandSets.{has}
-use Rattle.hands.proofs.CallerLemmas.{has-at}
+use Rattle.hands.proofs.CallerLemmas.{none-counted}
 use Rattle.well.specs.CellBits.{cells_in_bits}
 use Rattle.percent.specs.declared.game.Game.{Game}
 use Rattle.percent.specs.declared.position.Position.{Position}
 use Rattle.percent.specs.declared.kept.Slot.{Slot}
 use Rattle.percent.specs.GoodHands.{is_good}
-use Rattle.percent.specs.Kept.{answers_in, answers_of, IsTrueSlot}
+use Rattle.percent.specs.Kept.{blocks_in, blocks_of, IsTrueSlot}
 
 -- the cells below the rows left are all
 all_below : (p : Position) → intersection (filled p.well) (rows_below p.rows) ≡ filled p.well
@@ -38,12 +38,12 @@ all_below p = fun_ext (λ x. fun_ext (at x))
 pub bits-filled : (p : Position) (cells : ℕ) → cells_in_bits cells ≡ intersection (filled p.well) (rows_below p.rows) → cells_in_bits cells ≡ filled p.well
 bits-filled p cells is = is ∙ all_below p
 
--- a slot without answers says nothing that is false
-empty-slot : (game : Game) (slot : Slot) → answers_of slot ≡ 0 → IsTrueSlot game slot
-unfolding answers_of
+-- a slot without blocks says nothing that is false
+empty-slot : (game : Game) (slot : Slot) → blocks_of slot ≡ 0 → IsTrueSlot game slot
+unfolding blocks_of
 empty-slot game slot none = record {
-  found_true = λ hand there. let at = has-at slot.found hand there in absurd (omega (arith, at.1, none));
-  missed_true = λ hand there. let at = has-at slot.missed hand there in absurd (omega (arith, at.1, none));
+  found_true = λ hand there. absurd (both_ways _ (none-counted slot.found (omega (arith, none)) hand) there);
+  missed_true = λ hand there. absurd (both_ways _ (none-counted slot.missed (omega (arith, none)) hand) there);
 }
 
 -- a slot with the cells and rows of a position is true of it
@@ -113,9 +113,9 @@ recalled-is w f m rest unknown good g found missed rest_is unknown_is good_is = 
 
 -- ---- the table of slots
 
--- what a slot without answers says
+-- what a slot without blocks says
 abbrev pub IsBlank : Slot → Type 0
-IsBlank slot = answers_of slot ≡ 0
+IsBlank slot = blocks_of slot ≡ 0
 
 pub blank-true : (game : Game) (slots : List Slot) → All IsBlank slots → All (IsTrueSlot game) slots
 blank-true game slots blank = facts-none IsBlank (IsTrueSlot game) slots (empty-slot game) blank
@@ -126,29 +126,29 @@ slot-true game slots hash slot all is = subst (λ o. IfSome o (IsTrueSlot game))
 
 -- ---- how many answers there are
 
-none-counted : (slot : Slot) → IsBlank slot → answers_of slot ≤ 0
-unfolding answers_of
-none-counted slot none = omega (arith, none)
+blank-none : (slot : Slot) → IsBlank slot → blocks_of slot ≤ 0
+unfolding blocks_of
+blank-none slot none = omega (arith, none)
 
-pub blank-counted : (slots : List Slot) → All IsBlank slots → answers_in slots ≡ 0
-unfolding answers_in
-blank-counted slots blank = let few = sum_by-le answers_of 0 slots (facts-none IsBlank (λ slot. answers_of slot ≤ 0) slots none-counted blank) in omega (arith, few)
+pub blank-counted : (slots : List Slot) → All IsBlank slots → blocks_in slots ≡ 0
+unfolding blocks_in
+blank-counted slots blank = let few = sum_by-le blocks_of 0 slots (facts-none IsBlank (λ slot. blocks_of slot ≤ 0) slots blank-none blank) in omega (arith, few)
 
 -- the answers of the slot before go, and those of the new one come
 pub replaced : (slots : List Slot) (hash : ℕ) (slot before : Slot) → Some before ≡ slice_get slots (slot_in (length slots) hash)
-    → answers_in (with_entry slots hash slot) + answers_of before ≡ answers_in slots + answers_of slot
-unfolding answers_in
+    → blocks_in (with_entry slots hash slot) + blocks_of before ≡ blocks_in slots + blocks_of slot
+unfolding blocks_in
 replaced slots hash slot before is =
     let index : ℕ = slot_in (length slots) hash in
     let within = slice_get_within slots index before (sym is) in
-    let there = ap answers_of (get_or_from_slice_get slots index before before (sym is)) in
-    let change = sum_by-set answers_of slots index slot before within in omega (arith, there, change)
+    let there = ap blocks_of (get_or_from_slice_get slots index before before (sym is)) in
+    let change = sum_by-set blocks_of slots index slot before within in omega (arith, there, change)
 
 -- a slot has no more answers than there are
-pub one-of-all : (slots : List Slot) (hash : ℕ) (before : Slot) → Some before ≡ slice_get slots (slot_in (length slots) hash) → answers_of before ≤ answers_in slots
-unfolding answers_in
+pub one-of-all : (slots : List Slot) (hash : ℕ) (before : Slot) → Some before ≡ slice_get slots (slot_in (length slots) hash) → blocks_of before ≤ blocks_in slots
+unfolding blocks_in
 one-of-all slots hash before is =
     let index : ℕ = slot_in (length slots) hash in
     let within = slice_get_within slots index before (sym is) in
-    let there = ap answers_of (get_or_from_slice_get slots index before before (sym is)) in
-    let few = get_or-le-sum_by answers_of slots index before within in omega (arith, there, few)
+    let there = ap blocks_of (get_or_from_slice_get slots index before before (sym is)) in
+    let few = get_or-le-sum_by blocks_of slots index before within in omega (arith, there, few)

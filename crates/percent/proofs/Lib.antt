@@ -12,6 +12,6 @@ mod FittingLemmas
 mod SpreadLemmas
 mod RestingLemmas
 mod BuiltLemmas
+mod RestLemmas
 mod ServedLemmas
-mod AllowingLemmas
 mod BuildingLemmas

@@ -1,39 +1,43 @@
 -- A placement after which a rest is good stands in a listed tiling by the pieces of the rest and its own.
-use Rattle.std.proofs.Common.{ℕ, suc, cond, ◌≡◌, ◌↔◌, ◌∙◌, ◌+◌, ◌-◌, ◌*◌, ◌^◌, ◌%◌, ◌<◌, ◌≤◌, ◌⊎◌, true, false, ◌&&◌, ◌||◌, bit_and, bit_or, List, [], ◌∷◌, ◌++◌, length, get_or, map, ap, refl, sym, subst, inl, inr, arith, rules}
+use Rattle.std.proofs.Common.{ℕ, suc, cond, ◌≡◌, ◌↔◌, ◌∙◌, ◌+◌, ◌-◌, ◌*◌, ◌^◌, ◌%◌, ◌<◌, ◌≤◌, ◌⊎◌, Bool, true, false, ◌&&◌, ◌||◌, ◌==◌, bit_and, bit_or, List, [], ◌∷◌, ◌++◌, length, get_or, map, ap, refl, sym, subst, inl, inr, arith, rules}
 use Rattle.std.proofs.Math.Bool.{and-true, or-true, true-or}
-use Rattle.std.proofs.lemmas.Bool.{cases_Bool, cases_lt, cond-true, cond-false, both_ways, eq-eqb, false_from_ne_true, or_parts}
+use Rattle.std.proofs.lemmas.Bool.{agree_below_at, cases_lt, both_ways, eqb-true, false_from_ne_true, or_parts}
 use Rattle.std.specs.Prelude.{All, Contains, Option, Some, None, IfSome, IsSomeAnd, slice_get}
 use Rattle.std.proofs.lemmas.Option.{slice_get_within, get_or_from_slice_get}
+use Rattle.std.proofs.lemmas.List.Elements.{All-head, All-tail}
 use Rattle.std.proofs.lemmas.List.{get_or_append_left, get_or_push, length-append}
 use Rattle.hands.specs.declared.hand_set.HandSet.{HandSet}
-use Rattle.hands.specs.HandSets.{has, in_order}
+use Rattle.hands.specs.HandSets.{has}
+use Rattle.hands.specs.Numbers.{has_number}
 use Rattle.problem.proofs.CallerLemmas.{locked-low}
 use Rattle.srs.proofs.CallerLemmas.{some_same, piece_code-small}
 use Rattle.lane_board.specs.Lanes.{has_bit}
-use Rattle.lane_board.proofs.CallerLemmas.{has_bit-and, has_bit-low, has_bit-or, has_bit-shifted_high, has_bit-zero}
+use Rattle.lane_board.proofs.CallerLemmas.{has_bit-and, has_bit-or, has_bit-zero}
 use Rattle.lane_board.specs.Field.{Field, difference}
 use Rattle.srs.specs.declared.piece.Piece.{Piece}
 use Rattle.srs.specs.declared.placement.Placement.{Placement}
 use Rattle.srs.specs.Piece.{piece_code}
-use Rattle.srs.specs.Cells.{Cell}
+use Rattle.srs.specs.Rules.{table_of}
+use Rattle.moves.specs.Place.{IsPlace}
+use Rattle.moves.proofs.CallerLemmas.{place-free}
+use Rattle.hold_queue.specs.declared.hold.Hold.{Hold}
+use Rattle.hands.specs.Hands.{takes}
 use Rattle.well.specs.Well.{filled}
 use Rattle.well.specs.Free.{is_free}
 use Rattle.well.specs.Lock.{locked, rows_removed}
 use Rattle.well.specs.LockLaws.{is_below}
-use Rattle.prune.specs.Tiling.{Supply, Tiling, covers, is_empty_below}
-use Rattle.prune.specs.OnePart.{less_one}
+use Rattle.prune.specs.Tiling.{Supply, Tiling}
 use Rattle.prune.proofs.CallerLemmas.{full_rows_may_stand}
-use Rattle.empty_cells.specs.declared.empties.Empties.{Empties}
 use Rattle.empty_cells.specs.Empties.{all_but, empty_cells}
 use Rattle.empty_cells.specs.SentCells.{sent_cells}
 use Rattle.empty_cells.proofs.CallerLemmas.{IsSmall, cells_small}
 use Rattle.tiled_pieces.specs.declared.listed.ListedTiling.{ListedTiling}
-use Rattle.tiled_pieces.specs.TilingLists.{HasPiece, SomeHas, laid_part}
-use Rattle.tiled_pieces.specs.Built.{IsGone}
-use Rattle.tiled_pieces.specs.RowOrders.{IsGap, ListsOrdered}
-use Rattle.tiled_pieces.proofs.CallerLemmas.{built-can-go, left_by_part, ordered_part_listed, ordered_rest_listed}
+use Rattle.tiled_pieces.specs.TilingLists.{HasParts, HasPiece, SomeHas, laid_part}
+use Rattle.tiled_pieces.specs.RowOrders.{ListsOrdered}
+use Rattle.tiled_pieces.proofs.CallerLemmas.{built-can-go}
 use Rattle.percent.specs.declared.game.Game.{Game}
 use Rattle.percent.specs.declared.marks.Mark.{Mark}
+use Rattle.percent.specs.declared.marks.Marks.{Marks}
 use Rattle.percent.specs.declared.position.Child.{Child}
 use Rattle.percent.specs.declared.position.Position.{Position}
 use Rattle.percent.specs.Children.{IsChild}
@@ -41,9 +45,10 @@ use Rattle.percent.specs.Counts.{codes_with, supply_by}
 use Rattle.percent.specs.Fitting.{codes_in, supply_at}
 use Rattle.percent.specs.GoodHands.{is_good}
 use Rattle.percent.specs.BuiltHands.{IsBuiltBy}
-use Rattle.percent.proofs.BuiltLemmas.{after, good-built, less-small, unbroken}
-use Rattle.percent.proofs.SentLemmas.{laid, laid-sent, left-sent, lies, sent_part, tiled-left}
-use Rattle.percent.specs.Marks.{AreIndexes, HasMarkAt, IsMarkOf, IsStanding, IsTrueMark}
+use Rattle.percent.specs.ListedHands.{IsRestAt, ListsHand}
+use Rattle.percent.proofs.BuiltLemmas.{BuiltFirst, after, good-built, less-small, place-built}
+use Rattle.percent.proofs.SentLemmas.{laid-sent, sent_part, tiled-left}
+use Rattle.percent.specs.Marks.{AreCountsWith, AreIndexes, HasCounts, HasMarkAt, IsMarkOf, IsStanding, IsTrueMark}
 use Rattle.percent.specs.declared.children.Standing.{Standing}
 use Rattle.percent.specs.Standing.{AreStandingBefore}
 use Rattle.tiled_pieces.specs.declared.standing.StandingPieces.{StandingPieces}
@@ -51,19 +56,28 @@ use Rattle.tiled_pieces.specs.Standing.{GrowsBy, Stands}
 use Rattle.percent.specs.Spread.{IsSpread}
 use Rattle.percent.specs.Wanted.{IsWanted}
 use Rattle.percent.proofs.FittingLemmas.{low-position}
-use Rattle.percent.proofs.TiledLemmas.{good-tiled}
-use Rattle.hands.proofs.CallerLemmas.{has-at}
+use Rattle.percent.proofs.TiledLemmas.{IsRest, good-tiled, taken-rest}
+use Rattle.hands.proofs.CallerLemmas.{number-at, own_bit}
 
--- the counts of a rest and a piece more are enough for the rest when the piece is placed
-enough : (piece other : Piece) (count rest : ℕ) (counts : List ℕ) → ((code : ℕ) → code < 8 → codes_with piece count rest code ≤ get_or counts code 0)
-    → supply_at count rest other ≤ less_one (supply_by counts) piece other
-unfolding supply_at supply_by less_one codes_with
-enough piece other count rest counts most = search (rules, piece_code-small, cases_Bool, cond-true, cond-false)
+-- ---- the pieces of rests and of hands
 
-one_there : (piece : Piece) (count rest : ℕ) (counts : List ℕ) → ((code : ℕ) → code < 8 → codes_with piece count rest code ≤ get_or counts code 0)
-    → 0 < supply_by counts piece
-unfolding supply_by codes_with
-one_there piece count rest counts most = search (rules, piece_code-small, cond-true, eq-eqb)
+-- the counts of a rest and of the piece that was taken are those of the hand
+pub rest-counts : (left hand rest : ℕ) (piece : Piece) (counts : List ℕ) → IsRest (suc left) hand (piece_code piece) rest → AreCountsWith piece left rest counts → HasCounts counts (suc left) hand
+unfolding codes_with
+rest-counts left hand rest piece counts is are = record {
+  size = are.size;
+  each = λ code few. are.each code few ∙ ap (λ n. cond (piece_code piece == code) 1 0 + codes_in n rest code) {x = left + 1} {y = suc left} (omega arith)
+      ∙ is.fewer code ∙ ap (λ n. codes_in n hand code) {x = suc (suc left)} {y = suc left + 1} (omega arith);
+}
+
+-- so are those of another rest with the same pieces
+pub counts-alike : (left rest other : ℕ) (piece : Piece) (old new : List ℕ) → HasCounts new left rest → ((code : ℕ) → code < 8 → get_or new code 0 ≡ codes_in (left + 1) other code)
+    → AreCountsWith piece left other old → AreCountsWith piece left rest old
+unfolding codes_with
+counts-alike left rest other piece old new has same are = record {
+  size = are.size;
+  each = λ code few. are.each code few ∙ ap (λ n. cond (piece_code piece == code) 1 0 + n) (sym (same code few) ∙ has.each code few);
+}
 
 -- ---- good rests
 
@@ -81,119 +95,124 @@ pub walled-bad : (game : Game) (p : Position) (q : Placement) (left rest : ℕ) 
 walled-bad game p q left rest rows E spread free below none =
     false_from_ne_true _ (λ good. none (supply_at (left + 1) rest) (good-left game p q left rest rows E spread free below good))
 
--- rows between those of a placement are gone
-gaps-gone : (F : Field) (height : ℕ) (rows : List ℕ) (E : Field) → IsSpread F height rows E → (q : Placement) → is_free F q ≡ true → is_below height q ≡ true → (row : ℕ) → IsGap (laid_part (sent_part rows q)) row → IsGone E row
-gaps-gone F height rows E spread q free below row gap = at (subst (λ piece. IsGap piece row) (laid-sent rows q) gap)
-  where
-    at : IsGap (laid rows q) row → IsGone E row
-    at is = unbroken F height rows E spread q free below is.lower.x is.below is.upper.x is.above row is.lower.there is.upper.there is.over is.under
-        (λ x. false_from_ne_true (sent_cells rows q x row) (λ here. is.none (record { x = x; there = here })))
-
--- a rest that is good after a placement builds what it leaves
-good-after-built : (game : Game) (p : Position) (q : Placement) (left rest : ℕ) (rows : List ℕ) (E : Field) → IsSmall 8 E → IsSpread (filled p.well) p.rows rows E → is_free (filled p.well) q ≡ true → is_below p.rows q ≡ true
-    → is_good game (locked (filled p.well) q) (p.rows - rows_removed (filled p.well) q) left rest ≡ true
-    → IsBuiltBy (difference E (sent_cells rows q)) false game.hold left rest
-good-after-built game p q left rest rows E small spread free below good =
-    let next = after (filled p.well) p.rows E rows q p.few (low-position p) small spread free below in
-    good-built game false (locked (filled p.well) q) (p.rows - rows_removed (filled p.well) q) left rest next.kept (difference E (sent_cells rows q)) (λ must. absurd (both_ways _ refl must))
-    (omega (arith, p.few)) (locked-low (filled p.well) p.rows q (low-position p) below free) next.opens (less-small E (sent_cells rows q) small) next.spread good
-
--- and it stands in a listed tiling
-pub good-listed : (game : Game) (p : Position) (q : Placement) (left rest : ℕ) (rows counts : List ℕ) (E : Field) (list : List ListedTiling) → IsSmall 8 E → IsSpread (filled p.well) p.rows rows E
-    → is_free (filled p.well) q ≡ true → is_below p.rows q ≡ true
-    → ((code : ℕ) → code < 8 → codes_with q.piece (left + 1) rest code ≤ get_or counts code 0) → ListsOrdered E (supply_by counts) list
-    → is_good game (locked (filled p.well) q) (p.rows - rows_removed (filled p.well) q) left rest ≡ true
-    → SomeHas list (laid rows q)
-good-listed game p q left rest rows counts E list small spread free below most all good =
-    subst (SomeHas list) (laid-sent rows q)
-    (ordered_part_listed E (supply_by counts) list (sent_part rows q)
-    (lies (filled p.well) q p.rows rows E (supply_by counts) p.few small spread free below (one_there q.piece (left + 1) rest counts most))
-    (gaps-gone (filled p.well) p.rows rows E spread q free below) all tiling
-    (built-can-go (difference E (sent_cells rows q)) false (map laid_part built.tiling.parts) (less-small E (sent_cells rows q) small) built.built))
-  where
-    built : IsBuiltBy (difference E (sent_cells rows q)) false game.hold left rest
-    built = good-after-built game p q left rest rows E small spread free below good
-
-    tiling : Tiling (all_but (left_by_part E (sent_part rows q))) 8 (less_one (supply_by counts) q.piece)
-    tiling = record {
-      parts = built.tiling.parts;
-      generalized = built.tiling.generalized;
-      covered = subst (λ (D : Field). (cell : Cell) → covers built.tiling.parts cell ≡ cond (is_empty_below (all_but D) 8 cell) 1 0) (sym (left-sent rows E q)) built.tiling.covered;
-      supplied = λ other. omega (arith, built.tiling.supplied other, ap (λ n. supply_at n rest other) {x = suc left} {y = left + 1} (omega arith), enough q.piece other (left + 1) rest counts most);
-    }
-
 -- the same tilings by fewer pieces
 pub fewer-listed : (E : Field) (supply more : Supply) (list : List ListedTiling) → ((piece : Piece) → supply piece ≤ more piece) → ListsOrdered E more list → ListsOrdered E supply list
 fewer-listed E supply more list enough all = record {
   all = λ t can. all.all (record { parts = t.parts; generalized = t.generalized; covered = t.covered; supplied = λ piece. omega (arith, t.supplied piece, enough piece) }) can;
 }
 
--- the tilings that have the placed piece are those of what it leaves by the pieces of the rest
-pub after-listed : (F : Field) (q : Placement) (height left rest : ℕ) (rows counts fewer : List ℕ) (E : Field) (list kept : List ListedTiling) → height ≤ 8 → IsSmall 8 E → IsSpread F height rows E
-    → is_free F q ≡ true → is_below height q ≡ true
-    → ((code : ℕ) → code < 8 → codes_with q.piece (left + 1) rest code ≤ get_or counts code 0)
-    → ((code : ℕ) → code < 8 → get_or fewer code 0 ≡ codes_in (left + 1) rest code)
-    → ListsOrdered E (supply_by counts) list
-    → ((tiling : ListedTiling) → Contains list tiling → HasPiece tiling (laid rows q) → Contains kept tiling)
-    → ListsOrdered (difference E (sent_cells rows q)) (supply_by fewer) kept
-unfolding supply_by supply_at
-after-listed F q height left rest rows counts fewer E list kept few small spread free below most same all keeps =
-    fewer-listed (difference E (sent_cells rows q)) (supply_by fewer) (less_one (supply_by counts) q.piece) kept
-    (λ other. let equal = same (piece_code other) (let code = piece_code-small other in omega arith) in omega (arith, equal, enough q.piece other (left + 1) rest counts most))
-    (subst (λ (D : Field). ListsOrdered D (less_one (supply_by counts) q.piece) kept) (left-sent rows E q)
-    (ordered_rest_listed E (supply_by counts) list kept (sent_part rows q)
-    (lies F q height rows E (supply_by counts) few small spread free below (one_there q.piece (left + 1) rest counts most)) (gaps-gone F height rows E spread q free below) all
-    (λ tiling listed has. keeps tiling listed (subst (HasPiece tiling) (laid-sent rows q) has))))
-
 -- what holds of all marks holds of the one at an index
 pub marked_at : (P : Mark → Type 0) (known : List Mark) (index : ℕ) (counts : List ℕ) → All P known → (k : HasMarkAt known index counts) → P k.mark
 marked_at P known index counts all k = search (rules, slice_get_within, get_or_from_slice_get)
 
+-- ---- listed tilings
+
+-- a mark of all tilings lists those by which any hand is built
+pub true-lists : (E : Field) (drops : Bool) (hold : Hold) (left hand : ℕ) (mark : Mark) → IsSmall 8 E → IsTrueMark E mark → ListsHand E drops hold left hand mark
+unfolding supply_at supply_by
+true-lists E drops hold left hand mark small is = record {
+  each = λ counts built none. is.each (λ lists.
+      none ((fewer-listed E (supply_at (suc left) hand) (supply_by mark.counts) mark.tilings.tilings.items
+      (λ piece. let same = counts.each (piece_code piece) (let code = piece_code-small piece in omega arith) in
+      let one : left + 1 ≡ suc left = omega arith in omega (arith, same, ap (λ n. codes_in n hand (piece_code piece)) one)) lists).all built.tiling
+      (built-can-go E drops (map laid_part built.tiling.parts) small built.built)));
+}
+
+-- a place of a rest is the first of the parts of a tiling by which a hand is built
+pub rest-built : (marks : Marks) (q : Placement) (left rest : ℕ) → IsPlace (table_of marks.game.rules) (filled marks.position.well) marks.game.drop_mode q → is_below marks.position.rows q ≡ true
+    → (at : IsRestAt marks q.piece left rest) → (later : IsBuiltBy (difference (empty_cells marks.cells) (sent_cells marks.rows q)) marks.drops marks.game.hold left rest)
+    → IsRest (suc left) at.hand (piece_code q.piece) rest
+    × BuiltFirst (empty_cells marks.cells) marks.drops marks.game.hold (suc left) at.hand (sent_part marks.rows q) later.tiling.parts
+rest-built marks q left rest place below at later =
+    let p = marks.position in
+    let way = taken-rest marks.game.hold left (piece_code q.piece) at.hand (λ other. other == rest) at.taken in
+    let same : way.0 ≡ rest = eqb-true way.0 rest way.1 in
+    let is : IsRest (suc left) at.hand (piece_code q.piece) rest = subst (λ r. IsRest (suc left) at.hand (piece_code q.piece) r) same way.2 in (
+      is,
+      place-built marks.game marks.drops (filled p.well) p.rows left at.hand rest marks.rows (empty_cells marks.cells) q marks.hard p.few (low-position p) p.open_rows (cells_small marks.cells) marks.spread place below is
+          (subst (λ r. (goes_on : ℕ → Bool) → goes_on r ≡ true → takes marks.game.hold (piece_code q.piece) goes_on at.hand ≡ true) same way.3) later,
+    )
+
+-- so the listed tilings of the hand's mark have the place and what builds the rest
+pub rest-listed : (marks : Marks) (q : Placement) (left rest : ℕ) (mark : Mark) → IsPlace (table_of marks.game.rules) (filled marks.position.well) marks.game.drop_mode q → is_below marks.position.rows q ≡ true
+    → (at : IsRestAt marks q.piece left rest) → AreCountsWith q.piece left rest mark.counts → ListsHand (empty_cells marks.cells) marks.drops marks.game.hold (suc left) at.hand mark
+    → (later : IsBuiltBy (difference (empty_cells marks.cells) (sent_cells marks.rows q)) marks.drops marks.game.hold left rest)
+    → (HasParts mark.tilings.tilings.items (sent_part marks.rows q ∷ later.tiling.parts) → ⊥) → ⊥
+rest-listed marks q left rest mark place below at are lists later none =
+    let first = rest-built marks q left rest place below at later in
+    lists.each (rest-counts left at.hand rest q.piece mark.counts first.0 are) first.1.built (λ has. none (subst (HasParts mark.tilings.tilings.items) first.1.parts_are has))
+
+-- what a place leaves is built by a rest that is good after it
+good-after-built : (marks : Marks) (q : Placement) (left rest : ℕ) → is_free (filled marks.position.well) q ≡ true → is_below marks.position.rows q ≡ true
+    → is_good marks.game (locked (filled marks.position.well) q) (marks.position.rows - rows_removed (filled marks.position.well) q) left rest ≡ true
+    → IsBuiltBy (difference (empty_cells marks.cells) (sent_cells marks.rows q)) marks.drops marks.game.hold left rest
+good-after-built marks q left rest free below good =
+    let p = marks.position in
+    let E : Field = empty_cells marks.cells in
+    let next = after (filled p.well) p.rows E marks.rows q p.few (low-position p) (cells_small marks.cells) marks.spread free below in
+    good-built marks.game marks.drops (locked (filled p.well) q) (p.rows - rows_removed (filled p.well) q) left rest next.kept (difference E (sent_cells marks.rows q)) marks.hard
+    (omega (arith, p.few)) (locked-low (filled p.well) p.rows q (low-position p) below free) next.opens (less-small E (sent_cells marks.rows q) (cells_small marks.cells)) next.spread good
+
+mark-counts : (known : List Mark) (piece : Piece) (left rest index : ℕ) (k : IsMarkOf known piece left rest index) → AreCountsWith piece left rest k.there.mark.counts
+mark-counts known piece left rest index k = subst (AreCountsWith piece left rest) (sym k.there.same) k.are
+
 -- where the mark of a rest doesn't have it, the rest isn't good
-pub bad-placed : (game : Game) (p : Position) (known : List Mark) (rows : List ℕ) (cells : Empties) (q : Placement) (left rest index standing : ℕ) → IsSpread (filled p.well) p.rows rows (empty_cells cells)
-    → All (IsTrueMark (empty_cells cells)) known → is_free (filled p.well) q ≡ true → is_below p.rows q ≡ true → IsMarkOf known q.piece left rest index
-    → IsStanding known rows q standing → has_bit standing index ≡ false
-    → is_good game (locked (filled p.well) q) (p.rows - rows_removed (filled p.well) q) left rest ≡ false
-bad-placed game p known rows cells q left rest index standing spread true_marks free below k stands unset =
+pub bad-placed : (marks : Marks) (q : Placement) (left rest index standing : ℕ) → IsPlace (table_of marks.game.rules) (filled marks.position.well) marks.game.drop_mode q → is_below marks.position.rows q ≡ true
+    → IsRestAt marks q.piece left rest → IsMarkOf marks.known.items q.piece left rest index → IsStanding marks.known.items marks.rows q standing → has_bit standing index ≡ false
+    → is_good marks.game (locked (filled marks.position.well) q) (marks.position.rows - rows_removed (filled marks.position.well) q) left rest ≡ false
+bad-placed marks q left rest index standing place below at k stands unset =
     let mark = k.there.mark in
-    let most : (code : ℕ) → code < 8 → codes_with q.piece (left + 1) rest code ≤ get_or mark.counts code 0 =
-    λ code few. subst (λ (counts : List ℕ). codes_with q.piece (left + 1) rest code ≤ get_or counts code 0) (sym k.there.same) (k.enough code few) in
+    let free = place-free (table_of marks.game.rules) (filled marks.position.well) marks.game.drop_mode q place in
     false_from_ne_true _ (λ good.
-    (marked_at (IsTrueMark (empty_cells cells)) known index k.counts true_marks k.there).each (λ all.
-    stands.none index k.there.few unset mark k.there.there
-    (good-listed game p q left rest rows mark.counts (empty_cells cells) mark.tilings.tilings.items (cells_small cells) spread free below most all good)))
+    let later = good-after-built marks q left rest free below good in
+    rest-listed marks q left rest mark place below at (mark-counts marks.known.items q.piece left rest index k)
+    (marked_at (ListsHand (empty_cells marks.cells) marks.drops marks.game.hold (suc left) at.hand) marks.known.items index k.counts at.lists k.there) later
+    (λ has. stands.none index k.there.few unset mark k.there.there
+    (subst (SomeHas mark.tilings.tilings.items) (laid-sent marks.rows q)
+    (record { tiling = has.tiling; listed = has.listed; has = All-head (λ part. HasPiece has.tiling (laid_part part)) (sent_part marks.rows q) later.tiling.parts has.all }))))
 
-pub bad-stand : (game : Game) (p : Position) (child : Child) (left rest index : ℕ) (known : List Mark) (rows : List ℕ) (cells : Empties) → IsSpread (filled p.well) p.rows rows (empty_cells cells)
-    → All (IsTrueMark (empty_cells cells)) known → IsChild (filled p.well) p.rows child.placement.piece child → IsMarkOf known child.placement.piece left rest index
-    → IsStanding known rows child.placement child.standing → has_bit child.standing index ≡ false
-    → is_good game (filled child.position.well) child.position.rows left rest ≡ false
-bad-stand game p child left rest index known rows cells spread true_marks is k stands unset =
-    (λ i. is_good game (is.field i) (is.left i) left rest)
-    ∙ bad-placed game p known rows cells child.placement left rest index child.standing spread true_marks is.free is.below k stands unset
+pub bad-stand : (marks : Marks) (child : Child) (left rest index : ℕ) → IsChild marks.game marks.position child.placement.piece child → IsRestAt marks child.placement.piece left rest
+    → IsMarkOf marks.known.items child.placement.piece left rest index → IsStanding marks.known.items marks.rows child.placement child.standing → has_bit child.standing index ≡ false
+    → is_good marks.game (filled child.position.well) child.position.rows left rest ≡ false
+bad-stand marks child left rest index is at k stands unset =
+    (λ i. is_good marks.game (is.field i) (is.left i) left rest)
+    ∙ bad-placed marks child.placement left rest index child.standing is.place is.below at k stands unset
 
--- the tilings of a mark that have the placed piece are a mark for the rest
-pub mark-listed : (p : Position) (child : Child) (left rest index : ℕ) (known : List Mark) (rows : List ℕ) (cells : Empties) (taken : Field) (old new : Mark) → IsSpread (filled p.well) p.rows rows (empty_cells cells)
-    → All (IsTrueMark (empty_cells cells)) known → IsChild (filled p.well) p.rows child.placement.piece child → IsMarkOf known child.placement.piece left rest index → slice_get known index ≡ Some old
-    → taken ≡ sent_cells rows child.placement
-    → ((code : ℕ) → code < 8 → get_or new.counts code 0 ≡ codes_in (left + 1) rest code)
+-- the tilings of a mark that have the placed piece list those by which a rest with its pieces is built
+pub mark-listed : (marks : Marks) (child : Child) (left rest other index : ℕ) (taken : Field) (old new : Mark) → IsChild marks.game marks.position child.placement.piece child
+    → IsMarkOf marks.known.items child.placement.piece left other index → slice_get marks.known.items index ≡ Some old
+    → taken ≡ sent_cells marks.rows child.placement
+    → ((code : ℕ) → code < 8 → get_or new.counts code 0 ≡ codes_in (left + 1) other code)
     → ((tiling : ListedTiling) → Contains new.tilings.tilings.items tiling ↔ (Contains old.tilings.tilings.items tiling × HasPiece tiling (record { piece = child.placement.piece; cells = taken })))
-    → IsTrueMark (difference (empty_cells cells) (sent_cells rows child.placement)) new
-mark-listed p child left rest index known rows cells taken old new spread true_marks is k there same counts both =
+    → IsRestAt marks child.placement.piece left rest
+    → ListsHand (difference (empty_cells marks.cells) (sent_cells marks.rows child.placement)) marks.drops marks.game.hold left rest new
+mark-listed marks child left rest other index taken old new is k there same counts both at =
     let mark = k.there.mark in
+    let q = child.placement in
+    let part = sent_part marks.rows q in
     let one : mark ≡ old = some_same (sym k.there.there ∙ there) in
-    let most : (code : ℕ) → code < 8 → codes_with child.placement.piece (left + 1) rest code ≤ get_or mark.counts code 0 =
-    λ code few. subst (λ (counts : List ℕ). codes_with child.placement.piece (left + 1) rest code ≤ get_or counts code 0) (sym k.there.same) (k.enough code few) in
     record {
-      each = λ none. (marked_at (IsTrueMark (empty_cells cells)) known index k.counts true_marks k.there).each (λ all.
-          none (after-listed (filled p.well) child.placement p.rows left rest rows mark.counts new.counts (empty_cells cells) mark.tilings.tilings.items new.tilings.tilings.items p.few (cells_small cells) spread is.free is.below most counts all
-          (λ tiling listed has. (both tiling).1 (subst (λ (mark : Mark). Contains mark.tilings.tilings.items tiling) one listed, subst (λ (E : Field). HasPiece tiling (record { piece = child.placement.piece; cells = E })) (sym same) has))));
+      each = λ has later none.
+          rest-listed marks q left rest mark is.place is.below at
+          (counts-alike left rest other q.piece mark.counts new.counts has counts (mark-counts marks.known.items q.piece left other index k))
+          (marked_at (ListsHand (empty_cells marks.cells) marks.drops marks.game.hold (suc left) at.hand) marks.known.items index k.counts at.lists k.there) later
+          (λ lists. none (record {
+            tiling = lists.tiling;
+            listed = (both lists.tiling).1 (
+              subst (λ (mark : Mark). Contains mark.tilings.tilings.items lists.tiling) one lists.listed,
+              subst (HasPiece lists.tiling) (laid-sent marks.rows q ∙ (λ i. record { piece = q.piece; cells = sym same i }))
+                  (All-head (λ part. HasPiece lists.tiling (laid_part part)) part later.tiling.parts lists.all),
+            );
+            all = All-tail (λ part. HasPiece lists.tiling (laid_part part)) part later.tiling.parts lists.all;
+          }));
     }
 
 -- ---- in which marks a placement stands
 
-pub own_bit : (k : ℕ) → k < 64 → has_bit (1 * 2 ^ k % 2 ^ 64) k ≡ true
+-- all 64 bits are set
+pub all_set : (k : ℕ) → k < 64 → has_bit 18446744073709551615 k ≡ true
 unfolding has_bit
-own_bit k low = has_bit-low (1 * 2 ^ k) 64 k low ∙ has_bit-shifted_high 1 k k (omega arith) ∙ ap (has_bit 1) {x = k - k} {y = 0} (omega arith) ∙ refl
+all_set k below = agree_below_at (λ k. has_bit 18446744073709551615 k) (λ k. true) 64 k refl below
 
 pub standing-starts : (known : List Mark) (standing : Standing) → AreStandingBefore known standing 0
 standing-starts known standing = record { each = λ k below. absurd (omega arith) }
@@ -274,8 +293,9 @@ indexes-end known piece left items rests indexes i same state all = search rules
 
 -- a mark of the counts of a rest and a piece more
 pub mark-with : (known : List Mark) (piece : Piece) (left rest : ℕ) (counts : List ℕ) (index : Option ℕ) → IfSome index (λ p. HasMarkAt known p counts)
-    → ((code : ℕ) → code < 8 → codes_with piece (left + 1) rest code ≤ get_or counts code 0) → IfSome index (IsMarkOf known piece left rest)
-mark-with known piece left rest counts index there enough = search rules
+    → AreCountsWith piece left rest counts → IfSome index (IsMarkOf known piece left rest)
+mark-with known piece left rest counts None there are = there
+mark-with known piece left rest counts (Some index) there are = record { counts = counts; there = there; are = are }
 
 -- the mark at an index of which something is known
 pub mark-there : (P Q : ℕ → Type 0) (index : Option ℕ) → IfSome index P → IsSomeAnd index Q → (known_index : ℕ) × P known_index × Q known_index
@@ -314,20 +334,20 @@ set-more indexes wanted i index state here low = record { each = each }
     ]
 
 -- where the bits of all indexes are set, the mark of each rest is wanted
-pub all-wanted : (known : List Mark) (piece : Piece) (left : ℕ) (rests : HandSet) (indexes items : List (Option ℕ)) (wanted i : ℕ) → AreIndexes known piece left (in_order rests) indexes → items ≡ indexes
+pub all-wanted : (known : List Mark) (piece : Piece) (left : ℕ) (rests : HandSet) (numbers : List ℕ) (indexes items : List (Option ℕ)) (wanted i : ℕ) → ((rest : ℕ) → has_number numbers rest ≡ has rests rest) → AreIndexes known piece left numbers indexes → items ≡ indexes
     → AreSet items wanted i → length items ≤ i → (rest : ℕ) → has rests rest ≡ true → IsWanted known piece left rest wanted
-all-wanted known piece left rests indexes items wanted i are same set all rest here =
-    let at = has-at rests rest here in
+all-wanted known piece left rests numbers indexes items wanted i listed are same set all rest here =
+    let at = number-at numbers rest (listed rest ∙ here) in
     let bit : IsSet wanted (get_or indexes at.0 None) = subst (λ l. IsSet wanted (get_or l at.0 None)) same
     (set.each at.0 (let size = are.size in let long = ap length same in omega (arith, at.1, size, long, all))) in
-    let mark = mark-there (IsMarkOf known piece left (get_or (in_order rests) at.0 0)) (λ index. (index < 64) × (has_bit wanted index ≡ true)) (get_or indexes at.0 None) (are.each at.0 at.1) bit in
+    let mark = mark-there (IsMarkOf known piece left (get_or numbers at.0 0)) (λ index. (index < 64) × (has_bit wanted index ≡ true)) (get_or indexes at.0 None) (are.each at.0 at.1) bit in
     subst (λ r. IsWanted known piece left r wanted) at.2 (record { index = mark.0; mark = mark.1; set = mark.2.1 })
 
 -- a placement that stands in none of the marks that are wanted leaves no rest good
-pub bad-wanted : (game : Game) (p : Position) (known : List Mark) (rows : List ℕ) (cells : Empties) (q : Placement) (left rest wanted standing : ℕ) → IsSpread (filled p.well) p.rows rows (empty_cells cells)
-    → All (IsTrueMark (empty_cells cells)) known → is_free (filled p.well) q ≡ true → is_below p.rows q ≡ true → IsWanted known q.piece left rest wanted
-    → IsStanding known rows q standing → bit_and standing wanted ≡ 0
-    → is_good game (locked (filled p.well) q) (p.rows - rows_removed (filled p.well) q) left rest ≡ false
-bad-wanted game p known rows cells q left rest wanted standing spread true_marks free below is stands none =
-    bad-placed game p known rows cells q left rest is.index standing spread true_marks free below is.mark stands
+pub bad-wanted : (marks : Marks) (q : Placement) (left rest wanted standing : ℕ) → IsPlace (table_of marks.game.rules) (filled marks.position.well) marks.game.drop_mode q → is_below marks.position.rows q ≡ true
+    → IsRestAt marks q.piece left rest → IsWanted marks.known.items q.piece left rest wanted
+    → IsStanding marks.known.items marks.rows q standing → bit_and standing wanted ≡ 0
+    → is_good marks.game (locked (filled marks.position.well) q) (marks.position.rows - rows_removed (filled marks.position.well) q) left rest ≡ false
+bad-wanted marks q left rest wanted standing place below at is stands none =
+    bad-placed marks q left rest is.index standing place below at is.mark stands
     (sym (and-true (has_bit standing is.index)) ∙ ap (λ b. has_bit standing is.index && b) (sym is.set) ∙ sym (has_bit-and standing wanted is.index) ∙ ap (λ n. has_bit n is.index) none ∙ has_bit-zero is.index)

@@ -1,13 +1,12 @@
 -- The places of a piece, one after the other, and the positions after them.
 use Rattle.std.proofs.Common.{◌≡◌, ◌≢◌, ◌↔◌, ◌⊎◌, ℕ, ◌-◌, ◌<◌, ◌≤◌, Bool, true, false, ◌&&◌, ◌||◌, List, [], ◌∷◌, ◌++◌, IsTrue, length, refl, sym, ap, subst, ◌∙◌, inl, inr, arith}
-use Rattle.std.specs.Prelude.{All, Contains, Some, None, filter}
+use Rattle.std.specs.Prelude.{Contains, Some, None, filter}
 use Rattle.std.specs.Cmp.{tied_itself}
 use Rattle.std.specs.List.{list_any}
 use Rattle.std.specs.declared.cmp.Ordering.{Ordering}
 use Rattle.std.specs.declared.cmp.Ordering.TheVariants.{Less, Equal, Greater}
 use Rattle.std.specs.Prelude.{IsPermutation}
 use Rattle.std.proofs.lemmas.Bool.{and_from, and_parts, cases_Bool, false≢true, or_left, or_right, false_from_ne_true}
-use Rattle.std.proofs.lemmas.List.Elements.{All-nil, All-push}
 use Rattle.std.proofs.lemmas.List.Sorted.{list_any-IsPermutation}
 use Rattle.std.proofs.lemmas.List.Folds.{list_any-append}
 use Rattle.lane_board.specs.Field.{Field}
@@ -34,7 +33,6 @@ use Rattle.hands.specs.declared.hand_set.HandSet.{HandSet}
 use Rattle.hands.specs.HandSets.{has}
 use Rattle.percent.specs.declared.game.Game.{Game}
 use Rattle.percent.specs.declared.position.Child.{Child}
-use Rattle.percent.specs.Children.{IsChild}
 use Rattle.percent.specs.GoodHands.{reached_places, is_good, is_good_after, is_good_at}
 use Rattle.std.proofs.lemmas.Bool.{or_cases}
 
@@ -105,7 +103,6 @@ is_good_with game F rows left hand q = is_good game (locked F q) (rows - rows_re
 
 -- the positions so far and the places that are still held make up all at which some of the hands are good
 pub record Entering (game : Game) (F : Field) (rows : ℕ) (piece : Piece) (left : ℕ) (hands : HandSet) (children : List Child) (places : LowPlaces) : Type 0 where
-  pub after : All (IsChild F rows piece) children
   pub held : (q : Placement) → holds places q ≡ true → IsLowPlace game F rows piece q
   pub only : (hand : ℕ) → is_good_at game children left hand ≡ true → is_good_after game F rows piece left hand ≡ true
   pub each : (q : Placement) → IsLowPlace game F rows piece q
@@ -116,7 +113,6 @@ pub enter-starts : (game : Game) (T : Table) (F : Field) (rows : ℕ) (piece : P
     → Entering game F rows piece left hands children places
 unfolding is_good_at
 enter-starts game T F rows piece left hands children places rules nil held = record {
-  after = subst (All (IsChild F rows piece)) (sym nil) (All-nil (IsChild F rows piece));
   held = λ q is. let place = (held q).0 is in record { kind = place.0; place = subst (λ T. IsPlace T F game.drop_mode q) rules place.1; below = place.2 };
   only = λ hand good. absurd (false≢true (sym (ap (list_any (λ child. is_good game (filled child.position.well) child.position.rows left hand)) nil) ∙ good));
   each = λ q is. inl ((held q).1 (is.kind, subst (λ T. IsPlace T F game.drop_mode q) (sym rules) is.place, is.below));
@@ -137,7 +133,6 @@ module _ (game : Game) (F : Field) (rows : ℕ) (piece : Piece) (left : ℕ) (ha
   -- and left out
   pub enter-skip : ((hand : ℕ) → has hands hand ≡ true → is_good_with game F rows left hand q ≡ false) → Entering game F rows piece left hands children new
   enter-skip bad = record {
-    after = state.after;
     held = λ p is. state.held p ((rest p).0 is).0;
     only = state.only;
     each = λ p is. elim (state.each p is) [
@@ -150,10 +145,9 @@ module _ (game : Game) (F : Field) (rows : ℕ) (piece : Piece) (left : ℕ) (ha
   }
 
   -- or entered
-  pub enter-more : (child : Child) → IsChild F rows piece child → filled child.position.well ≡ locked F q → child.position.rows ≡ rows - rows_removed F q → Entering game F rows piece left hands (children ++ child ∷ []) new
+  pub enter-more : (child : Child) → filled child.position.well ≡ locked F q → child.position.rows ≡ rows - rows_removed F q → Entering game F rows piece left hands (children ++ child ∷ []) new
   unfolding is_good_at is_good_after
-  enter-more child is field height = record {
-    after = All-push (IsChild F rows piece) children child state.after is;
+  enter-more child field height = record {
     held = λ p is. state.held p ((rest p).0 is).0;
     only = λ hand good. elim (or_cases (list_any (at hand) children) (at hand child || false) (sym (list_any-append (at hand) children (child ∷ [])) ∙ good)) [
       | inl before ↦ state.only hand before

@@ -1,64 +1,89 @@
--- Hands that no listed tiling of their mark serves.
-use Rattle.std.specs.Prelude.{◌≡◌, ℕ, ◌+◌, ◌<◌, ◌≤◌, Bool, true, false, List, Option, None, IfSome, length, slice_index, slice_index_or}
+-- Hands that no listed tiling of their mark serves, and tilings that serve no hand.
+use Rattle.std.specs.Prelude.{◌≡◌, ◌⊎◌, ℕ, ◌<◌, Bool, true, false, All, List, Some, [], length, slice_get, slice_index, slice_index_or}
 use Rattle.std.specs.List.{Contains}
-use Rattle.lane_board.specs.Field.{Field}
-use Rattle.lane_board.specs.Lanes.{has_bit}
 use Rattle.well.specs.Well.{filled}
-use Rattle.hold_queue.specs.declared.hold.Hold.{Hold}
+use Rattle.empty_cells.specs.Empties.{empty_cells}
 use Rattle.tiled_pieces.specs.declared.listed.ListedTiling.{ListedTiling}
 use Rattle.tiled_pieces.specs.Served.{IsServed}
+use Rattle.tiled_pieces.specs.TilingLists.{HasPiece, laid_part}
 use Rattle.percent.specs.declared.building.Block.{Block}
-use Rattle.percent.specs.declared.building.Question.{Question}
+use Rattle.percent.specs.declared.game.Game.{Game}
 use Rattle.percent.specs.declared.marks.Mark.{Mark}
+use Rattle.percent.specs.declared.marks.Marks.{Marks}
 use Rattle.percent.specs.declared.position.Position.{Position}
-use Rattle.percent.specs.Fitting.{codes_in}
+use Rattle.percent.specs.BuiltHands.{IsBuiltBy}
 use Rattle.percent.specs.GoodHands.{is_good}
-use Rattle.percent.specs.Marks.{HasMarkAt}
-use Rattle.percent.specs.Weights.{AllowsTaken}
-
--- no bit is lost
-pub record KeepsBits (old new : List ℕ) : Type 0 where
-  pub each : (sum bit : ℕ) → has_bit (slice_index old sum) bit ≡ true → has_bit (slice_index new sum) bit ≡ true
-
--- each of the first so many hands is open, or its bit is set at all sums of pieces that can be taken from it
-pub record AreNoted (hold : Hold) (left : ℕ) (hands weights allowed : List ℕ) (open_hands count : ℕ) : Type 0 where
-  pub each : (k : ℕ) → k < count → has_bit open_hands k ≡ false → AllowsTaken hold left (slice_index hands k) weights allowed k
+use Rattle.percent.specs.ListedHands.{AllListHand, ListsHand}
+use Rattle.percent.specs.Marks.{HasCounts}
+use Rattle.hands.specs.Weights.{AllowsTaken}
 
 -- no listed tiling of a mark serves a hand
-pub record IsRefused (question : Question) (E : Field) (mark : Mark) (hand : ℕ) : Type 0 where
+pub record IsRefused (marks : Marks) (left : ℕ) (mark : Mark) (hand : ℕ) : Type 0 where
   pub weights : List ℕ
   pub allowed : List ℕ
   pub bit : ℕ
-  pub allows : AllowsTaken question.game.hold question.left hand weights allowed bit
+  pub allows : AllowsTaken marks.game.hold left hand weights allowed bit
   pub none : (tiling : ListedTiling) → Contains mark.tilings.tilings.items tiling
-      → IsServed tiling E question.drops weights allowed bit → ⊥
+      → IsServed tiling (empty_cells marks.cells) marks.drops weights allowed bit → ⊥
 
--- these counts are of enough pieces for a hand
-pub record IsEnough (counts : List ℕ) (left hand : ℕ) : Type 0 where
-  pub each : (code : ℕ) → code < 8 → codes_in (left + 1) hand code ≤ slice_index counts code
+-- a listed tiling is used that has all parts of one by which a hand is built
+pub record IsUsedBy (marks : Marks) (left : ℕ) (list : List ListedTiling) (used : List Bool) (hand : ℕ) : Type 0 where
+  pub each : (built : IsBuiltBy (empty_cells marks.cells) marks.drops marks.game.hold left hand) (j : ℕ) (tiling : ListedTiling)
+      → slice_get list j ≡ Some tiling → All (λ part. HasPiece tiling (laid_part part)) built.tiling.parts
+      → slice_index_or used j false ≡ true
 
--- the mark at this index is of enough pieces for a hand
-pub record IsMarkFor (known : List Mark) (left hand index : ℕ) : Type 0 where
-  pub counts : List ℕ
-  pub there : HasMarkAt known index counts
-  pub enough : IsEnough counts left hand
+-- what is used stays so
+pub record StaysUsed (old new : List Bool) : Type 0 where
+  pub size : length new ≡ length old
+  pub each : (j : ℕ) → slice_index_or old j false ≡ true → slice_index_or new j false ≡ true
 
--- for each hand the index of the mark of its pieces, if there is one
-pub record AreMarksFor (known : List Mark) (left : ℕ) (hands : List ℕ) (indexes : List (Option ℕ)) : Type 0 where
-  pub size : length indexes ≡ length hands
-  pub each : (k : ℕ) → k < length hands → IfSome (slice_index_or indexes k None) (IsMarkFor known left (slice_index hands k))
+-- each of some marks lists the tilings by which these hands are built
+pub record AllListHands (marks : Marks) (left : ℕ) (hands : List ℕ) : Type 0 where
+  pub each : (n : ℕ) → n < length hands → AllListHand marks left (slice_index hands n)
 
--- one of the hands, for which a mark is of enough pieces
+-- one mark does
+pub record ListsHands (marks : Marks) (left : ℕ) (hands : List ℕ) (mark : Mark) : Type 0 where
+  pub each : (n : ℕ) → n < length hands
+      → ListsHand (empty_cells marks.cells) marks.drops marks.game.hold left (slice_index hands n) mark
+
+-- the counts of each hand
+pub record AreCountsOf (left : ℕ) (hands : List ℕ) (counts : List (List ℕ)) : Type 0 where
+  pub size : length counts ≡ length hands
+  pub each : (k : ℕ) → k < length hands → HasCounts (slice_index_or counts k []) left (slice_index hands k)
+
+-- one of the hands, with the pieces of a mark
 pub record IsHandOf (mark : Mark) (left : ℕ) (hands : List ℕ) (index : ℕ) : Type 0 where
   pub within : index < length hands
-  pub enough : IsEnough mark.counts left (slice_index hands index)
+  pub counts : HasCounts mark.counts left (slice_index hands index)
 
--- a block is of some of the hands, for each of which a mark is of enough pieces
+-- a block is of such hands
 pub record IsBlock (mark : Mark) (left : ℕ) (hands : List ℕ) (block : Block) : Type 0 where
   pub each : (k : ℕ) → k < block.len → IsHandOf mark left hands (slice_index block.indexes k)
 
+-- a block has the index of a hand
+pub record IsIn (block : Block) (index : ℕ) : Type 0 where
+  pub k : ℕ
+  pub low : k < block.len
+  pub here : slice_index block.indexes k ≡ index
+
+-- A block is of some of the hands with the pieces of a mark. Of the others before an index, the tilings that serve them
+-- are used.
+pub record AreGathered (marks : Marks) (mark : Mark) (left : ℕ) (hands : List ℕ) (block : Block) (used : List Bool)
+    (index : ℕ) : Type 0 where
+  pub size : length used ≡ length mark.tilings.tilings.items
+  pub those : IsBlock mark left hands block
+  pub each : (n : ℕ) → n < index → HasCounts mark.counts left (slice_index hands n)
+      → IsIn block n ⊎ IsUsedBy marks left mark.tilings.tilings.items used (slice_index hands n)
+
 -- hands that are not among those that may be good are bad
-pub record AreTested (p : Position) (question : Question) (hands : List ℕ) (may : List Bool) : Type 0 where
+pub record AreTested (game : Game) (p : Position) (left : ℕ) (hands : List ℕ) (may : List Bool) : Type 0 where
   pub size : length may ≡ length hands
   pub each : (k : ℕ) → k < length hands → slice_index_or may k true ≡ false
-      → is_good question.game (filled p.well) p.rows question.left (slice_index hands k) ≡ false
+      → is_good game (filled p.well) p.rows left (slice_index hands k) ≡ false
+
+-- marks with fewer tilings, which still list those by which the hands are built
+pub record AreNarrowed (old new : Marks) (left : ℕ) (hands : List ℕ) : Type 0 where
+  pub position : new.position ≡ old.position
+  pub game : new.game ≡ old.game
+  pub size : length new.known.items ≡ length old.known.items
+  pub lists : AllListHands new left hands

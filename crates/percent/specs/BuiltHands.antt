@@ -1,9 +1,7 @@
 -- Hands that permit the pieces of a tiling to be put in place in some order.
-use Rattle.std.specs.Prelude.{◌≡◌, ℕ, suc, Bool, true, List, [], ◌∷◌, length, map}
+use Rattle.std.specs.Prelude.{◌≡◌, ℕ, suc, Bool, true, length, map}
 use Rattle.lane_board.specs.Field.{Field}
-use Rattle.srs.specs.declared.piece.Piece.{Piece}
 use Rattle.srs.specs.Kick.{srs_table}
-use Rattle.srs.specs.Piece.{piece_code}
 use Rattle.srs.specs.Rules.{table_of}
 use Rattle.moves.specs.declared.key.DropMode.TheVariants.{Hard}
 use Rattle.hold_queue.specs.declared.hold.Hold.{Hold}
@@ -15,12 +13,7 @@ use Rattle.percent.specs.declared.game.Game.{Game}
 use Rattle.tiled_pieces.specs.Built.{AreBuilt}
 use Rattle.tiled_pieces.specs.Served.{left_by}
 use Rattle.percent.specs.Fitting.{supply_at}
-use Rattle.hands.specs.Hands.{takes}
-
--- the kinds of these pieces can be taken from the hand one after the other
-unfoldable pub takes_all : Hold → ℕ → List Piece → Bool
-takes_all hold hand [] = true
-takes_all hold hand (piece ∷ more) = takes hold (piece_code piece) (λ rest. takes_all hold rest more) hand
+use Rattle.hands.specs.Hands.{takes_all}
 
 -- Some tiling of the set by pieces of a hand has so many parts, and they can be put into the set one after the other,
 -- in an order in which the hand permits their kinds.

@@ -1,17 +1,19 @@
 -- Positions after placements.
-use Rattle.std.specs.Prelude.{◌≡◌, ℕ, ◌-◌, true}
-use Rattle.lane_board.specs.Field.{Field}
+use Rattle.std.specs.Prelude.{◌≡◌, ◌-◌, true}
 use Rattle.srs.specs.declared.piece.Piece.{Piece}
+use Rattle.srs.specs.Rules.{table_of}
 use Rattle.well.specs.Well.{filled}
-use Rattle.well.specs.Free.{is_free}
 use Rattle.well.specs.Lock.{locked, rows_removed}
 use Rattle.well.specs.LockLaws.{is_below}
+use Rattle.moves.specs.Place.{IsPlace}
+use Rattle.percent.specs.declared.game.Game.{Game}
 use Rattle.percent.specs.declared.position.Child.{Child}
+use Rattle.percent.specs.declared.position.Position.{Position}
 
--- after a placement of a piece that lies below the rows left
-pub record IsChild (F : Field) (rows : ℕ) (piece : Piece) (child : Child) : Type 0 where
+-- after a place of a piece that lies below the rows left
+pub record IsChild (game : Game) (p : Position) (piece : Piece) (child : Child) : Type 0 where
   pub kind : child.placement.piece ≡ piece
-  pub free : is_free F child.placement ≡ true
-  pub below : is_below rows child.placement ≡ true
-  pub field : filled child.position.well ≡ locked F child.placement
-  pub left : child.position.rows ≡ rows - rows_removed F child.placement
+  pub place : IsPlace (table_of game.rules) (filled p.well) game.drop_mode child.placement
+  pub below : is_below p.rows child.placement ≡ true
+  pub field : filled child.position.well ≡ locked (filled p.well) child.placement
+  pub left : child.position.rows ≡ p.rows - rows_removed (filled p.well) child.placement

@@ -1,8 +1,8 @@
 -- Answers that are kept are true.
-use Rattle.std.specs.Prelude.{◌≡◌, ℕ, ◌+◌, ◌&&◌, not, true, false, Contains, List, length, sum_by}
+use Rattle.std.specs.Prelude.{◌≡◌, ℕ, ◌+◌, ◌&&◌, not, true, false, Contains, List, sum_by}
 use Rattle.lane_board.specs.Field.{Field}
 use Rattle.hands.specs.declared.hand_set.HandSet.{HandSet}
-use Rattle.hands.specs.HandSets.{has, in_order}
+use Rattle.hands.specs.HandSets.{block_count, has}
 use Rattle.well.specs.CellBits.{cells_in_bits}
 use Rattle.percent.specs.declared.game.Game.{Game}
 use Rattle.percent.specs.declared.kept.Slot.{Slot}
@@ -30,9 +30,9 @@ pub record AreAnswered (game : Game) (F : Field) (rows left : ℕ) (hands good b
   pub goods : (hand : ℕ) → has good hand ≡ (has hands hand && is_good game F rows left hand)
   pub bads : (hand : ℕ) → has bad hand ≡ (has hands hand && not (is_good game F rows left hand))
 
--- how many answers a slot has, and how many there are in all
-unfoldable pub answers_of : Slot → ℕ
-answers_of slot = length (in_order slot.found) + length (in_order slot.missed)
+-- how many blocks of answers a slot has, and how many there are in all
+unfoldable pub blocks_of : Slot → ℕ
+blocks_of slot = block_count slot.found + block_count slot.missed
 
-unfoldable pub answers_in : List Slot → ℕ
-answers_in slots = sum_by answers_of slots
+unfoldable pub blocks_in : List Slot → ℕ
+blocks_in slots = sum_by blocks_of slots

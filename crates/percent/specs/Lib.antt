@@ -8,11 +8,11 @@ pub mod BuiltHands
 pub mod GoodHands
 -- What serves proofs alone
 pub mod Counts
-pub mod Weights
 pub mod Kept
 pub mod Children
 pub mod Spread
 pub mod Marks
+pub mod ListedHands
 pub mod Wanted
 pub mod Standing
 pub mod Building

@@ -1,5 +1,5 @@
--- Marks: all tilings of some cells by some pieces.
-use Rattle.std.specs.Prelude.{◌≡◌, ℕ, ◌+◌, ◌<◌, ◌≤◌, false, List, Option, Some, None, IfSome, length, slice_get, slice_index, slice_index_or}
+-- Marks: all tilings of some cells by some pieces, and their indexes.
+use Rattle.std.specs.Prelude.{◌≡◌, ℕ, ◌+◌, ◌<◌, false, List, Option, Some, None, IfSome, length, slice_get, slice_index, slice_index_or}
 use Rattle.srs.specs.declared.piece.Piece.{Piece}
 use Rattle.lane_board.specs.Field.{Field}
 use Rattle.lane_board.specs.Lanes.{has_bit}
@@ -9,11 +9,17 @@ use Rattle.tiled_pieces.specs.RowOrders.{ListsOrdered}
 use Rattle.tiled_pieces.specs.TilingLists.{SomeHas}
 use Rattle.percent.specs.declared.marks.Mark.{Mark}
 use Rattle.percent.specs.Counts.{codes_with, supply_by}
+use Rattle.percent.specs.Fitting.{codes_in}
 
 -- Each tiling of the cells by so many pieces is listed, if its rows can go one before the other. As a fact without a
 -- choice of its own: it can't be refuted.
 pub record IsTrueMark (E : Field) (mark : Mark) : Type 0 where
   pub each : (ListsOrdered E (supply_by mark.counts) mark.tilings.tilings.items → ⊥) → ⊥
+
+-- these counts are those of the pieces of a hand
+pub record HasCounts (counts : List ℕ) (left hand : ℕ) : Type 0 where
+  pub size : length counts ≡ 8
+  pub each : (code : ℕ) → code < 8 → slice_index counts code ≡ codes_in (left + 1) hand code
 
 -- the mark at this index is of pieces with these counts
 pub record HasMarkAt (known : List Mark) (index : ℕ) (counts : List ℕ) : Type 0 where
@@ -27,11 +33,16 @@ pub record IsStanding (known : List Mark) (rows : List ℕ) (q : Placement) (sta
   pub none : (k : ℕ) → k < 64 → has_bit standing k ≡ false → (mark : Mark) → slice_get known k ≡ Some mark
       → SomeHas mark.tilings.tilings.items (record { piece = q.piece; cells = sent_cells rows q }) → ⊥
 
--- the mark at this index is of enough pieces for a rest and a piece
+-- these counts are those of the pieces of a rest and of one piece more
+pub record AreCountsWith (piece : Piece) (left rest : ℕ) (counts : List ℕ) : Type 0 where
+  pub size : length counts ≡ 8
+  pub each : (code : ℕ) → code < 8 → slice_index counts code ≡ codes_with piece (left + 1) rest code
+
+-- the mark at this index is of the pieces of a rest and of one piece more
 pub record IsMarkOf (known : List Mark) (piece : Piece) (left rest index : ℕ) : Type 0 where
   pub counts : List ℕ
   pub there : HasMarkAt known index counts
-  pub enough : (code : ℕ) → code < 8 → codes_with piece (left + 1) rest code ≤ slice_index counts code
+  pub are : AreCountsWith piece left rest counts
 
 -- for each rest the index of the mark of its pieces, if there is one
 pub record AreIndexes (known : List Mark) (piece : Piece) (left : ℕ) (rests : List ℕ) (indexes : List (Option ℕ)) : Type 0 where

@@ -1,15 +1,16 @@
 // The hands that are good at a position, from kept answers or by searching every position that a piece leads to.
 ghost use Rattle.std.specs.Prelude.{◌≡◌, ℕ, ◌≤◌, ◌+◌, ◌&&◌, ◌==◌, not, IfOk};
-ghost use Rattle.hands.specs.HandSets.{has, in_order};
+ghost use Rattle.hands.specs.HandSets.{has};
 ghost use Rattle.well.specs.Well.{filled};
 ghost use Rattle.percent.specs.Children.{IsChild};
 ghost use Rattle.percent.specs.GoodHands.{is_good, is_good_after};
 ghost use Rattle.percent.specs.Kept.{AreAnswered};
+ghost use Rattle.percent.specs.ListedHands.{AreMarksOf, AreRestsAt};
 ghost use Rattle.percent.specs.Marks.{AreIndexes};
 
 use crate::kept::Kept;
 use crate::listed::{marks_after, marks_of};
-use crate::marks::{Asked, Marks, fitting_after};
+use crate::marks::{Asked, Marks};
 use crate::position::{Child, Position};
 use hands::HandSet;
 use pc_outside::NoMemory;
@@ -39,8 +40,8 @@ fn less(
     found: &HandSet,
 ) -> Result<Asked, NoMemory>
     requires few { left ≤ 20 }
-    requires indexes { AreIndexes marks.now.known.items piece left (in_order asked.rests) asked.indexes.items }
-    ensures indexes { IfOk result (λ asked. AreIndexes marks.now.known.items piece left (in_order asked.rests)
+    requires indexes { AreIndexes marks.now.known.items piece left asked.numbers.items asked.indexes.items }
+    ensures indexes { IfOk result (λ asked. AreIndexes marks.now.known.items piece left asked.numbers.items
         asked.indexes.items) }
     ensures members { IfOk result (λ less. (rest : ℕ) →
         has less.rests rest ≡ (has asked.rests rest && not (has found.now rest))) }
@@ -64,8 +65,9 @@ fn answered<L: Ledger>(
     steps: &mut Steps<L>,
 ) -> Result<HandSet, NoMemory>
     requires few { left ≤ 20 }
-    requires child { IsChild (filled marks.now.position.well) marks.now.position.rows child.now.placement.piece
-        child.now }
+    requires game { kept.old.game ≡ marks.now.game }
+    requires child { IsChild marks.now.game marks.now.position child.now.placement.piece child.now }
+    requires rests { AreRestsAt marks.now child.now.placement.piece left (has hands.now) }
     ensures members { IfOk result (λ good. (hand : ℕ) → has good hand ≡ (has hands.now hand
         && is_good kept.old.game (filled child.now.position.well) child.now.position.rows left hand)) }
     ensures game { kept.new.game ≡ kept.old.game }
@@ -103,16 +105,16 @@ fn searched<L: Ledger>(
 ) -> Result<HandSet, NoMemory>
     requires some { 1 ≤ left }
     requires few { left ≤ 20 }
-    requires child { IsChild (filled marks.now.position.well) marks.now.position.rows child.now.placement.piece
-        child.now }
+    requires game { kept.old.game ≡ marks.now.game }
+    requires child { IsChild marks.now.game marks.now.position child.now.placement.piece child.now }
+    requires rests { AreRestsAt marks.now child.now.placement.piece left (has hands.now) }
     ensures members { IfOk result (λ good. (hand : ℕ) → has good hand ≡ (has hands.now hand
         && is_good kept.old.game (filled child.now.position.well) child.now.position.rows left hand)) }
     ensures game { kept.new.game ≡ kept.old.game }
     ensures counted { steps.old ≤ steps.new }
 {
-    let hold = kept.game.hold;
-    let below = marks_after(alloc, &mut kept.lister, hold, marks, child, left, hands);
-    let (good, bad) = explored(alloc, kept, &below, left - 1, hands, steps)?;
+    let below = marks_after(alloc, &mut kept.lister, marks, child, left, hands);
+    let (good, bad) = explored(alloc, kept, below, left - 1, hands, steps)?;
     kept.keep(alloc, &child.position, left, &good, &bad);
     Ok(good)
 }
@@ -128,7 +130,9 @@ fn missed<L: Ledger>(
     hands: HandSet,
     steps: &mut Steps<L>,
 ) -> Result<HandSet, NoMemory>
-    requires { left ≤ 19 }
+    requires few { left ≤ 19 }
+    requires game { kept.old.game ≡ marks.now.game }
+    requires lists { AreMarksOf marks.now (left + 1) (has hands) }
     ensures members { IfOk result (λ bad. (hand : ℕ) → has bad hand ≡ (has hands hand && not (
         is_good kept.old.game (filled marks.now.position.well) marks.now.position.rows (left + 1) hand))) }
     ensures game { kept.new.game ≡ kept.old.game }
@@ -151,26 +155,28 @@ fn missed<L: Ledger>(
 fn explored<L: Ledger>(
     alloc: Global,
     kept: &mut Kept,
-    marks: &Marks,
+    mut marks: Marks,
     left: u8,
     hands: &HandSet,
     steps: &mut Steps<L>,
 ) -> Result<(HandSet, HandSet), NoMemory>
-    requires { left ≤ 19 }
-    ensures answers { IfOk result (λ answers. AreAnswered kept.old.game (filled marks.now.position.well)
-        marks.now.position.rows (left + 1) hands.now answers.0 answers.1) }
+    requires few { left ≤ 19 }
+    requires game { kept.old.game ≡ marks.game }
+    requires lists { AreMarksOf marks (left + 1) (has hands.now) }
+    ensures answers { IfOk result (λ answers. AreAnswered kept.old.game (filled marks.position.well)
+        marks.position.rows (left + 1) hands.now answers.0 answers.1) }
     ensures game { kept.new.game ≡ kept.old.game }
     ensures counted { steps.old ≤ steps.new }
 {
-    if !marks.asks_orders(&kept.game, left + 1) {
+    if !marks.asks_orders(left + 1) {
         let all = hands.copied(alloc)?;
-        let bad = missed(alloc, kept, marks, left, all, steps)?;
+        let bad = missed(alloc, kept, &marks, left, all, steps)?;
         let good = hands.without(alloc, &bad)?;
         return Ok((good, bad));
     }
-    let likely = marks.buildable(alloc, &kept.game, left + 1, hands)?;
+    let likely = marks.buildable(alloc, left + 1, hands)?;
     let all = likely.copied(alloc)?;
-    let open = missed(alloc, kept, marks, left, all, steps)?;
+    let open = missed(alloc, kept, &marks, left, all, steps)?;
     let good = likely.without(alloc, &open)?;
     let bad = hands.without(alloc, &good)?;
     Ok((good, bad))
@@ -188,7 +194,9 @@ fn tried<L: Ledger>(
     rests: &HandSet,
     steps: &mut Steps<L>,
 ) -> Result<HandSet, NoMemory>
-    requires { left ≤ 19 }
+    requires few { left ≤ 19 }
+    requires game { kept.old.game ≡ marks.now.game }
+    requires rests { AreRestsAt marks.now piece left (has rests.now) }
     ensures members { IfOk result (λ good. (rest : ℕ) → has good rest
         ≡ (has rests.now rest && is_good_after kept.old.game (filled marks.now.position.well)
         marks.now.position.rows piece left rest)) }
@@ -205,7 +213,7 @@ fn tried<L: Ledger>(
         if asked.rests.is_empty() {
             return rests.copied(alloc);
         }
-        let fit = fitting_after(alloc, &mut kept.fits, marks, child, left, &asked)?;
+        let fit = marks.fitting_after(alloc, &mut kept.fits, child, left, &asked)?;
         let good = answered(alloc, kept, marks, child, left, &fit, steps)?;
         asked = less(alloc, marks, piece, left, asked, &good)?;
     }
@@ -230,8 +238,8 @@ pub fn answered_first<L: Ledger>(
     if left == 0 {
         return answered_at_end(alloc, position, hands);
     }
-    let hold = kept.game.hold;
-    let marks = marks_of(alloc, &mut kept.lister, hold, position, left - 1, hands);
-    let (good, _) = explored(alloc, kept, &marks, left - 1, hands, steps)?;
+    let game = kept.game;
+    let marks = marks_of(alloc, &mut kept.lister, &game, position, left - 1, hands);
+    let (good, _) = explored(alloc, kept, marks, left - 1, hands, steps)?;
     Ok(good)
 }

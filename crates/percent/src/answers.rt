@@ -2,7 +2,7 @@
 ghost use Rattle.std.specs.Prelude.{◌≡◌, ◌≤◌, IfOk, count_by, length};
 ghost use Rattle.queue_pattern.specs.Pattern.{elements_of};
 ghost use Rattle.queue_pattern.specs.Queues.{queues};
-ghost use Rattle.hands.specs.HandSets.{has, in_order};
+ghost use Rattle.hands.specs.HandSets.{has};
 ghost use Rattle.problem.specs.Problem.{IsFit};
 ghost use Rattle.percent.specs.GoodHands.{AreAnswers, HasGoodHands, HasHandsBefore, is_good_queue};
 
@@ -25,7 +25,7 @@ fn hands_of(alloc: Global, problem: &Problem) -> Result<HandSet, NoMemory>
     for number in 0..count {
         hands.push(hand(problem, number))?;
     }
-    HandSet::of(alloc, hands)
+    HandSet::of(alloc, hands.as_slice())
 }
 
 /// That each queue is good, where the hand of each is among good ones.
@@ -42,21 +42,19 @@ fn all_good(alloc: Global, problem: &Problem, hands: &HandSet) -> Result<Vec<boo
     Ok(answers)
 }
 
-/// For each queue, by its number, whether it is good: whether its hand is among the good ones. If there are as many good
-/// hands as there are hands in `all`, each is.
+/// For each queue, by its number, whether it is good: whether its hand is among the good ones. If all hands are, each is.
 fn judged(
     alloc: Global,
     problem: &Problem,
-    all: usize,
+    all: &HandSet,
     good: &HandSet,
 ) -> Result<Vec<bool>, NoMemory>
     requires fit { IsFit problem.now }
-    requires whole { length (in_order good.now) ≡ all →
-        HasHandsBefore problem.now (has good.now) (length (queues (elements_of problem.now.pattern))) }
+    requires each { HasHandsBefore problem.now (has all.now) (length (queues (elements_of problem.now.pattern))) }
     requires exact { HasGoodHands problem.now good.now }
     ensures { IfOk result (λ v. AreAnswers problem.now v.items (length (queues (elements_of problem.now.pattern)))) }
 {
-    if good.len() == all {
+    if all.without(alloc, good)?.is_empty() {
         return all_good(alloc, problem, good);
     }
     let starts = Starts::new(alloc, good)?;
@@ -110,9 +108,8 @@ impl Answers {
         ensures counted { steps.old ≤ steps.new }
     {
         let hands = hands_of(alloc, problem)?;
-        let all = hands.len();
-        let good = good_hands(alloc, problem, hands, steps)?;
-        let good = judged(alloc, problem, all, &good)?;
+        let good = good_hands(alloc, problem, &hands, steps)?;
+        let good = judged(alloc, problem, &hands, &good)?;
         let count = count_good(problem, good.as_slice());
         Ok(Answers {
             problem: *problem,

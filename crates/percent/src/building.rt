@@ -1,31 +1,16 @@
 // The hands that may be good because a listed tiling serves them: its pieces can be put in place one after the other,
-// in an order that the hand permits.
-ghost use Rattle.std.specs.Prelude.{◌≡◌, ◌≤◌, ◌<◌, Some, length, true};
+// in an order that the hand permits. And the tilings that serve such hands.
+ghost use Rattle.std.specs.Prelude.{◌≡◌, ◌↔◌, ◌≤◌, ◌<◌, ◌==◌, ◌||◌, ℕ, length, not, true, false};
 ghost use Rattle.lane_board.specs.Lanes.{has_bit};
-ghost use Rattle.percent.specs.BuiltHands.{IsHardSrs};
+ghost use Rattle.empty_cells.specs.Empties.{empty_cells};
+ghost use Rattle.tiled_pieces.specs.Served.{IsServed};
 
-use crate::allowing::{sums_of, weights_of};
-use crate::fitting::counts_of;
-use crate::game::Game;
-use crate::marks::{Mark, Marks, index_of};
+use crate::fitting::{Counts, are_same};
+use crate::marks::{Mark, Marks};
 use empty_cells::Empties;
-use hands::HandSet;
-use hold_queue::Hold;
-use moves::DropMode;
-use pc_outside::NoMemory;
-use std::alloc::Global;
-use tiled_pieces::served_hands;
-
-/// What is asked of hands: whether they may be good in a game with `left` placements to come. `drops` says that nothing
-/// may lie above a placement.
-#[derive(Clone, Copy)]
-struct Question {
-    game: Game,
-    left: u8,
-    drops: bool,
-    ghost few: { left ≤ 20 },
-    ghost hard: { drops ≡ true → IsHardSrs game },
-}
+use hands::{Sums, sums_of, weights_of};
+use lane_board::words::has_bit;
+use tiled_pieces::{ListedTiling, served_hands};
 
 /// Indexes of up to 64 hands with the same mark.
 #[derive(Clone, Copy)]
@@ -36,37 +21,8 @@ struct Block {
     ghost size: { length indexes ≡ 64 },
 }
 
-impl Game {
-    /// Whether nothing may lie above a placement: with hard drops by the Super Rotation System.
-    fn drops(&self) -> bool
-        ensures { result ≡ true → IsHardSrs self.now }
-    {
-        match self.drop_mode {
-            DropMode::Hard => self.rules.is_srs(),
-            DropMode::Soft => false,
-        }
-    }
-}
-
-impl Question {
-    /// Whether hands may be good in a game.
-    fn new(game: &Game, left: u8) -> Question
-        requires { left ≤ 20 }
-        ensures game { result.game ≡ game.now }
-        ensures left { result.left ≡ left }
-    {
-        Question {
-            game: *game,
-            left,
-            drops: game.drops(),
-        }
-    }
-}
-
 impl Block {
-    ghost use Rattle.std.specs.Prelude.{ℕ, ◌+◌, slice_index, slice_set};
-    ghost use Rattle.percent.specs.declared.marks.Mark.{Mark};
-    ghost use Rattle.percent.specs.Building.{IsBlock};
+    ghost use Rattle.std.specs.Prelude.{◌+◌, slice_index, slice_set};
 
     /// No hand.
     fn empty() -> Block
@@ -111,94 +67,102 @@ fn lowest(count: usize) -> u64 {
     }
 }
 
-impl Mark {
-    ghost use Rattle.std.specs.Prelude.{ℕ, slice_index};
-    ghost use Rattle.empty_cells.specs.Empties.{empty_cells};
-    ghost use Rattle.percent.specs.Building.{IsRefused};
-
-    /// Those of up to 64 hands that no listed tiling serves, one bit each. A hand of which some sum of weights is not
-    /// in the table is not among them.
-    fn unserved(&self, cells: &Empties, question: &Question, hands: &[u64]) -> u64
-        requires { length hands.now ≤ 64 }
-        ensures { (k : ℕ) → k < length hands.now → has_bit result k ≡ true
-            → IsRefused question.now (empty_cells cells.now) self.now (slice_index hands.now k) }
-    {
-        let weights = weights_of(&self.counts);
-        let (allowed, open) = sums_of(question.game.hold, &weights, question.left, hands);
-        let all = lowest(hands.len());
-        let mut pending = all ^ (all & open);
-        for tiling in &self.tilings.tilings {
-            if pending == 0 {
-                return 0;
-            }
-            let served = served_hands(tiling, cells, question.drops, &weights, &allowed, pending);
-            pending ^= pending & served;
-        }
-        pending
-    }
+/// Whether something is so, or a bit is set.
+#[inline(always)]
+fn or_some(is_so: bool, bits: u64) -> bool
+    ensures { result ≡ (is_so || not (bits == 0)) }
+{
+    is_so || bits != 0
 }
 
-/// Whether a bit is set.
+/// The hands about which a tiling is asked: those that are pending, and all if it is not used so far.
 #[inline(always)]
-fn has(bits: u64, k: usize) -> bool
-    requires { k < 64 }
-    ensures { result ≡ has_bit bits k }
+fn asked_about(is_used: bool, pending: u64) -> u64
+    ensures pending { (k : ℕ) → k < 64 → has_bit pending k ≡ true → has_bit result k ≡ true }
+    ensures all { is_used ≡ false → (k : ℕ) → k < 64 → has_bit result k ≡ true }
 {
-    bits >> k & 1 == 1
+    if is_used {
+        return pending;
+    }
+    u64::MAX
 }
 
-/// Whether the index is known, and this one.
+/// Of some hands, one bit each, those that a tiling serves.
 #[inline(always)]
-fn is_index(known: Option<u8>, index: usize) -> bool
-    ensures { result ≡ true → known ≡ Some index }
+fn served_among(
+    tiling: &ListedTiling,
+    cells: &Empties,
+    drops: bool,
+    weights: &[u16; 8],
+    allowed: &Sums,
+    hands: u64,
+) -> u64
+    ensures { (bit : ℕ) → has_bit result bit ≡ true ↔ ((has_bit hands bit ≡ true)
+        × IsServed tiling.now (empty_cells cells.now) drops weights.now allowed.now bit) }
 {
-    match known {
-        Some(known_index) => usize::from(known_index) == index,
-        None => false,
+    if hands == 0 {
+        return 0;
     }
+    served_hands(tiling, cells, drops, weights, allowed, hands)
 }
 
 impl Marks {
-    ghost use Rattle.std.specs.Prelude.{ℕ, ◌&&◌, IfOk, vec_len};
-    ghost use Rattle.well.specs.Well.{filled};
-    ghost use Rattle.empty_cells.specs.Empties.{empty_cells};
-    ghost use Rattle.hands.specs.HandSets.{has};
-    ghost use Rattle.percent.specs.Building.{AreMarksFor, AreTested, IsBlock, IsHandOf};
-    ghost use Rattle.percent.specs.GoodHands.{is_good};
-    ghost use Rattle.percent.specs.Marks.{IsTrueMark};
+    ghost use Rattle.std.specs.Prelude.{◌+◌, slice_index};
+    ghost use Rattle.percent.specs.Building.{AreCountsOf, AreGathered, AreTested, IsBlock, IsHandOf, IsRefused};
+    ghost use Rattle.percent.specs.Building.{IsUsedBy, ListsHands, StaysUsed};
+    ghost use Rattle.percent.specs.Marks.{HasCounts};
 
-    /// The index of the mark of each hand, if there is one.
-    fn indexes(&self, alloc: Global, left: u8, hands: &[u64]) -> Result<Vec<Option<u8>>, NoMemory>
-        requires { left ≤ 20 }
-        ensures { IfOk result (λ v. AreMarksFor self.now.known.items left hands.now v.items) }
+    /// Those of up to 64 hands that no tiling of a mark serves, one bit each. Notes which tilings serve some of them. A
+    /// hand of which some sum of weights is not in the table is not among them, and any tiling may serve it.
+    fn unserved(&self, mark: &Mark, left: u8, hands: &[u64], used: &mut Vec<bool>) -> u64
+        requires left { left ≤ 20 }
+        requires hands { length hands.now ≤ 64 }
+        requires size { length used.old.items ≡ length mark.now.tilings.tilings.items }
+        ensures stays { StaysUsed used.old.items used.new.items }
+        ensures used { (k : ℕ) → k < length hands.now
+            → IsUsedBy self.now left mark.now.tilings.tilings.items used.new.items (slice_index hands.now k) }
+        ensures unserved { (k : ℕ) → k < length hands.now → has_bit result k ≡ true
+            → IsRefused self.now left mark.now (slice_index hands.now k) }
     {
-        let mut indexes = Vec::with_capacity(alloc, hands.len())?;
-        let mut index = None;
-        for hand in hands {
-            index = index_of(self.known.as_slice(), &counts_of(*hand, left + 1), index);
-            indexes.push(index)?;
+        let weights = weights_of(&mark.counts);
+        let (allowed, open) = sums_of(self.game.hold, &weights, left, hands);
+        let all = lowest(hands.len());
+        let mut pending = all ^ (all & open);
+        for index in 0..mark.tilings.tilings.len() {
+            let tiling = &mark.tilings.tilings[index];
+            let is_used = or_some(used[index], open);
+            let asked = asked_about(is_used, pending);
+            let served = served_among(tiling, &self.cells, self.drops, &weights, &allowed, asked);
+            pending ^= pending & served;
+            used[index] = or_some(is_used, served);
         }
-        Ok(indexes)
+        pending
     }
 
-    /// Notes that hands of a block are bad which no listed tiling of their mark serves.
+    /// Notes that hands of a block are bad which no tiling of their mark serves, and which tilings serve some of them.
     fn note(
         &self,
         mark: &Mark,
-        question: &Question,
+        left: u8,
         hands: &[u64],
         block: &Block,
         may: &mut Vec<bool>,
+        used: &mut Vec<bool>,
     )
-        requires mark { IsTrueMark (empty_cells self.now.cells) mark.now }
-        requires block { IsBlock mark.now question.now.left hands.now block.now }
-        requires tested { AreTested self.now.position question.now hands.now may.old.items }
-        ensures { AreTested self.now.position question.now hands.now may.new.items }
+        requires left { left ≤ 20 }
+        requires lists { ListsHands self.now left hands.now mark.now }
+        requires block { IsBlock mark.now left hands.now block.now }
+        requires size { length used.old.items ≡ length mark.now.tilings.tilings.items }
+        requires tested { AreTested self.now.game self.now.position left hands.now may.old.items }
+        ensures tested { AreTested self.now.game self.now.position left hands.now may.new.items }
+        ensures stays { StaysUsed used.old.items used.new.items }
+        ensures used { (k : ℕ) → k < block.now.len → IsUsedBy self.now left mark.now.tilings.tilings.items
+            used.new.items (slice_index hands.now (slice_index block.now.indexes k)) }
     {
         let gathered = block.hands_among(hands);
-        let unserved = mark.unserved(&self.cells, question, &gathered[..block.len]);
+        let unserved = self.unserved(mark, left, &gathered[..block.len], used);
         for k in 0..block.len {
-            if has(unserved, k) {
+            if has_bit(unserved, k as u16) {
                 may[block.indexes[k]] = false;
             }
         }
@@ -208,102 +172,54 @@ impl Marks {
     fn gather(
         &self,
         mark: &Mark,
-        question: &Question,
+        left: u8,
         hands: &[u64],
         index: usize,
         block: &mut Block,
         may: &mut Vec<bool>,
+        used: &mut Vec<bool>,
     )
-        requires mark { IsTrueMark (empty_cells self.now.cells) mark.now }
-        requires hand { IsHandOf mark.now question.now.left hands.now index }
-        requires block { IsBlock mark.now question.now.left hands.now block.old }
-        requires tested { AreTested self.now.position question.now hands.now may.old.items }
-        ensures block { IsBlock mark.now question.now.left hands.now block.new }
-        ensures tested { AreTested self.now.position question.now hands.now may.new.items }
+        requires left { left ≤ 20 }
+        requires lists { ListsHands self.now left hands.now mark.now }
+        requires hand { IsHandOf mark.now left hands.now index }
+        requires gathered { AreGathered self.now mark.now left hands.now block.old used.old.items index }
+        requires tested { AreTested self.now.game self.now.position left hands.now may.old.items }
+        ensures gathered { AreGathered self.now mark.now left hands.now block.new used.new.items (index + 1) }
+        ensures tested { AreTested self.now.game self.now.position left hands.now may.new.items }
     {
         if block.len == 64 {
-            self.note(mark, question, hands, block, may);
+            self.note(mark, left, hands, block, may, used);
             *block = Block::empty();
         }
         block.push(index);
     }
 
-    /// Notes which hands of one mark are bad.
-    fn note_mark(
+    /// Notes which hands with the pieces of a mark are bad, and which of its tilings serve some of them.
+    pub fn test_mark(
         &self,
-        index: usize,
-        question: &Question,
+        mark: &Mark,
+        left: u8,
         hands: &[u64],
-        indexes: &[Option<u8>],
+        counts: &[Counts],
         may: &mut Vec<bool>,
+        used: &mut Vec<bool>,
     )
-        requires index { index < vec_len self.now.known }
-        requires indexes { AreMarksFor self.now.known.items question.now.left hands.now indexes.now }
-        requires tested { AreTested self.now.position question.now hands.now may.old.items }
-        ensures { AreTested self.now.position question.now hands.now may.new.items }
+        requires left { left ≤ 20 }
+        requires lists { ListsHands self.now left hands.now mark.now }
+        requires counts { AreCountsOf left hands.now counts.now }
+        requires size { length used.old.items ≡ length mark.now.tilings.tilings.items }
+        requires tested { AreTested self.now.game self.now.position left hands.now may.old.items }
+        ensures tested { AreTested self.now.game self.now.position left hands.now may.new.items }
+        ensures size { length used.new.items ≡ length mark.now.tilings.tilings.items }
+        ensures used { (n : ℕ) → n < length hands.now → HasCounts mark.now.counts left (slice_index hands.now n)
+            → IsUsedBy self.now left mark.now.tilings.tilings.items used.new.items (slice_index hands.now n) }
     {
-        let mark = &self.known[index];
         let mut block = Block::empty();
         for at in 0..hands.len() {
-            if is_index(indexes[at], index) {
-                self.gather(mark, question, hands, at, &mut block, may);
+            if are_same(&counts[at], &mark.counts) {
+                self.gather(mark, left, hands, at, &mut block, may, used);
             }
         }
-        self.note(mark, question, hands, &block, may);
-    }
-
-    /// Which hands may be good. The others no listed tiling of their mark serves.
-    fn may_serve(
-        &self,
-        alloc: Global,
-        question: &Question,
-        hands: &[u64],
-    ) -> Result<Vec<bool>, NoMemory>
-        ensures { IfOk result (λ may. AreTested self.now.position question.now hands.now may.items) }
-    {
-        let indexes = self.indexes(alloc, question.left, hands)?;
-        let mut may = vec![in alloc; true; hands.len()]?;
-        for index in 0..self.known.len() {
-            self.note_mark(index, question, hands, indexes.as_slice(), &mut may);
-        }
-        Ok(may)
-    }
-
-    /// Whether it pays to ask which hands a listed tiling may serve, with `left` placements to come. With fewer or more
-    /// of them the test costs more than what it spares.
-    pub fn asks_orders(&self, game: &Game, left: u8) -> bool {
-        if self.is_empty() {
-            return false;
-        }
-        match (game.drops(), game.hold) {
-            (true, _) => (4..=8).contains(&left),
-            (false, Hold::Avoided) => (6..=7).contains(&left),
-            (false, Hold::Allowed) => false,
-        }
-    }
-
-    /// Those of the hands that a listed tiling may serve, with `left` placements to come. The others are not good.
-    pub fn buildable(
-        &self,
-        alloc: Global,
-        game: &Game,
-        left: u8,
-        hands: &HandSet,
-    ) -> Result<HandSet, NoMemory>
-        requires { left ≤ 20 }
-        ensures { IfOk result (λ likely. (hand : ℕ) → (has likely hand
-            && is_good game.now (filled self.now.position.well) self.now.position.rows left hand)
-            ≡ (has hands.now hand
-            && is_good game.now (filled self.now.position.well) self.now.position.rows left hand)) }
-    {
-        let numbers = hands.numbers();
-        let may = self.may_serve(alloc, &Question::new(game, left), numbers)?;
-        let mut likely = HandSet::with_room(alloc, numbers.len())?;
-        for index in 0..numbers.len() {
-            if may[index] {
-                likely.insert(numbers[index])?;
-            }
-        }
-        Ok(likely)
+        self.note(mark, left, hands, &block, may, used);
     }
 }

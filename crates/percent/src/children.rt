@@ -1,17 +1,18 @@
 // The positions that a piece leads to.
 ghost use Rattle.std.specs.Prelude.{◌≡◌, ◌≤◌, ◌+◌, ◌-◌, ℕ, IsTrue, IfOk, IfSome, All, true, false};
 ghost use Rattle.well.specs.Well.{filled};
-ghost use Rattle.well.specs.Free.{is_free};
 ghost use Rattle.well.specs.Lock.{locked, rows_removed};
 ghost use Rattle.well.specs.LockLaws.{is_below};
 ghost use Rattle.lane_board.specs.Field.{difference};
+ghost use Rattle.srs.specs.Rules.{table_of};
+ghost use Rattle.moves.specs.Place.{IsPlace};
 ghost use Rattle.prune.specs.Tiling.{Supply, Tiling};
 ghost use Rattle.empty_cells.specs.Empties.{all_but, empty_cells};
 ghost use Rattle.empty_cells.specs.SentCells.{sent_cells};
-ghost use Rattle.hands.specs.HandSets.{has, in_order};
-ghost use Rattle.percent.specs.declared.game.Game.{Game};
+ghost use Rattle.hands.specs.HandSets.{has};
 ghost use Rattle.percent.specs.Children.{IsChild};
 ghost use Rattle.percent.specs.GoodHands.{is_good, is_good_after, is_good_at};
+ghost use Rattle.percent.specs.ListedHands.{AreRestsAt};
 ghost use Rattle.percent.specs.Marks.{AreIndexes, IsStanding};
 ghost use Rattle.percent.specs.Standing.{AreStanding};
 ghost use Rattle.percent.specs.Wanted.{IsWanted};
@@ -39,7 +40,7 @@ struct Standing {
 impl Marks {
     /// The marks of the rests asked about: bit `k` stands for mark `k`. `None` if a rest has no mark.
     fn wanted(&self, piece: Piece, left: u8, asked: &Asked) -> Option<u64>
-        requires { AreIndexes self.now.known.items piece left (in_order asked.now.rests) asked.now.indexes.items }
+        requires { AreIndexes self.now.known.items piece left asked.now.numbers.items asked.now.indexes.items }
         ensures { IfSome result (λ wanted. (rest : ℕ) → has asked.now.rests rest ≡ true
             → IsWanted self.now.known.items piece left rest wanted) }
     {
@@ -119,14 +120,16 @@ impl Marks {
         asked: &Asked,
         wanted: Option<u64>,
     ) -> bool
-        requires free { IsTrue (is_free (filled self.now.position.well) placement.now) }
+        requires place { IsPlace (table_of self.now.game.rules) (filled self.now.position.well)
+            self.now.game.drop_mode placement.now }
         requires below { IsTrue (is_below self.now.position.rows placement.now) }
+        requires rests { AreRestsAt self.now placement.now.piece left (has asked.now.rests) }
         requires taken { empty_cells taken.now ≡ sent_cells self.now.rows placement.now }
         requires standing { IsStanding self.now.known.items self.now.rows placement.now standing }
         requires wanted { IfSome wanted (λ wanted. (rest : ℕ) → has asked.now.rests rest ≡ true
             → IsWanted self.now.known.items placement.now.piece left rest wanted) }
-        ensures { result ≡ false → (game : Game) (rest : ℕ) → has asked.now.rests rest ≡ true
-            → is_good game (locked (filled self.now.position.well) placement.now)
+        ensures { result ≡ false → (rest : ℕ) → has asked.now.rests rest ≡ true
+            → is_good self.now.game (locked (filled self.now.position.well) placement.now)
             (self.now.position.rows - rows_removed (filled self.now.position.well) placement.now) left rest ≡ false }
     {
         let Some(wanted) = wanted else {
@@ -147,10 +150,10 @@ impl Marks {
         steps: &mut Steps<L>,
     ) -> Result<Vec<Child>, NoMemory>
         requires few { left ≤ 20 }
-        requires indexes { AreIndexes self.now.known.items piece left (in_order asked.now.rests)
-            asked.now.indexes.items }
-        ensures after { IfOk result (λ v. All (IsChild (filled self.now.position.well) self.now.position.rows piece)
-            v.items) }
+        requires game { kept.now.game ≡ self.now.game }
+        requires indexes { AreIndexes self.now.known.items piece left asked.now.numbers.items asked.now.indexes.items }
+        requires rests { AreRestsAt self.now piece left (has asked.now.rests) }
+        ensures after { IfOk result (λ v. All (IsChild self.now.game self.now.position piece) v.items) }
         ensures standing { IfOk result (λ v. All (λ child. IsStanding self.now.known.items self.now.rows
             child.placement child.standing) v.items) }
         ensures good { IfOk result (λ v. (rest : ℕ) → has asked.now.rests rest ≡ true

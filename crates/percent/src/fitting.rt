@@ -1,9 +1,10 @@
 // Leaving out hands whose pieces can't fill the empty cells, before anything is played.
-ghost use Rattle.std.specs.Prelude.{◌≡◌, ◌↔◌, ℕ, ◌≤◌, ◌<◌, ◌&&◌, IsTrue, true, false, IfOk, slice_index};
+ghost use Rattle.std.specs.Prelude.{◌≡◌, ◌↔◌, ℕ, ◌≤◌, ◌<◌, ◌&&◌, IsTrue, true, false, IfOk, length, slice_index};
 ghost use Rattle.empty_cells.specs.Empties.{all_but, empty_cells};
 ghost use Rattle.well.specs.Well.{filled};
 ghost use Rattle.prune.specs.Tiling.{Tiling};
 ghost use Rattle.hands.specs.HandSets.{has};
+ghost use Rattle.hands.specs.Numbers.{has_number};
 ghost use Rattle.percent.specs.declared.game.Game.{Game};
 ghost use Rattle.percent.specs.Counts.{supply_by};
 ghost use Rattle.percent.specs.Fitting.{codes_in};
@@ -73,7 +74,8 @@ pub fn are_same(a: &Counts, b: &Counts) -> bool
 
 /// The counts of the first `pieces` pieces of a hand.
 pub fn counts_of(hand: u64, pieces: u8) -> Counts
-    ensures { (code : ℕ) → code < 8 → slice_index result code ≡ codes_in pieces hand code }
+    ensures size { length result ≡ 8 }
+    ensures each { (code : ℕ) → code < 8 → slice_index result code ≡ codes_in pieces hand code }
 {
     let mut counts = [0; 8];
     let mut rest = hand;
@@ -97,12 +99,12 @@ fn greater(a: &Counts, b: &Counts) -> Counts
 }
 
 /// The greatest count for each code over some hands.
-fn greatest_counts(hands: &HandSet, pieces: u8) -> Counts
-    ensures { (hand : ℕ) → has hands.now hand ≡ true → (code : ℕ) → code < 8 →
+fn greatest_counts(hands: &[u64], pieces: u8) -> Counts
+    ensures { (hand : ℕ) → has_number hands.now hand ≡ true → (code : ℕ) → code < 8 →
         codes_in pieces hand code ≤ slice_index result code }
 {
     let mut counts = [0; 8];
-    for hand in hands.numbers() {
+    for hand in hands {
         counts = greater(&counts, &counts_of(*hand, pieces));
     }
     counts
@@ -154,12 +156,13 @@ pub fn fitting(
     fits: &mut FitMemory,
     position: &Position,
     left: u8,
-    hands: &HandSet,
+    hands: &[u64],
 ) -> Result<HandSet, NoMemory>
     requires { left ≤ 20 }
-    ensures { IfOk result (λ fit. (game : Game) (hand : ℕ) →
+    ensures fewer { IfOk result (λ fit. (hand : ℕ) → has fit hand ≡ true → has_number hands.now hand ≡ true) }
+    ensures good { IfOk result (λ fit. (game : Game) (hand : ℕ) →
         (has fit hand && is_good game (filled position.now.well) position.now.rows left hand)
-        ≡ (has hands.now hand && is_good game (filled position.now.well) position.now.rows left hand)) }
+        ≡ (has_number hands.now hand && is_good game (filled position.now.well) position.now.rows left hand)) }
 {
     let mut fit = HandSet::none(alloc);
     if cheap_no(&position.well, position.rows, &[255; 7]) {
@@ -172,7 +175,7 @@ pub fn fitting(
     if !fits.may_fit(&cells, hash, near, &greatest_counts(hands, pieces)) {
         return Ok(fit);
     }
-    for hand in hands.numbers() {
+    for hand in hands {
         if fits.may_fit(&cells, hash, near, &counts_of(*hand, pieces)) {
             fit.insert(*hand)?;
         }

@@ -1,4 +1,6 @@
 // What stays the same while hands are searched.
+ghost use Rattle.std.specs.Prelude.{◌≡◌, true};
+
 use hold_queue::Hold;
 use moves::DropMode;
 use srs::Rules;
@@ -9,4 +11,18 @@ pub struct Game {
     pub rules: Rules,
     pub drop_mode: DropMode,
     pub hold: Hold,
+}
+
+impl Game {
+    ghost use Rattle.percent.specs.BuiltHands.{IsHardSrs};
+
+    /// Whether nothing may lie above a placement: with hard drops by the Super Rotation System.
+    pub fn drops(&self) -> bool
+        ensures { result ≡ true → IsHardSrs self.now }
+    {
+        match self.drop_mode {
+            DropMode::Hard => self.rules.is_srs(),
+            DropMode::Soft => false,
+        }
+    }
 }

@@ -2,7 +2,7 @@
 ghost use Rattle.std.specs.Prelude.{◌≡◌, ◌≤◌, ◌<◌, All, length};
 ghost use Rattle.srs.specs.Rules.{table_of};
 ghost use Rattle.reach.specs.FloodRules.{flood_table};
-ghost use Rattle.percent.specs.Kept.{answers_in, answers_of, IsTrueSlot, Keeps};
+ghost use Rattle.percent.specs.Kept.{blocks_in, blocks_of, IsTrueSlot, Keeps};
 
 use crate::fitting::FitMemory;
 use crate::game::Game;
@@ -29,16 +29,16 @@ pub struct Slot {
 }
 
 impl Slot {
-    /// How many answers it has.
-    fn len(&self) -> usize
-        ensures { result ≡ answers_of self.now }
+    /// How many blocks of answers it has.
+    fn block_count(&self) -> usize
+        ensures { result ≡ blocks_of self.now }
     {
-        self.found.len() + self.missed.len()
+        self.found.block_count() + self.missed.block_count()
     }
 }
 
 impl Entry for Slot {
-    ghost says_nothing = { λ slot. answers_of slot ≡ 0 };
+    ghost says_nothing = { λ slot. blocks_of slot ≡ 0 };
 
     fn nothing(alloc: Global) -> Slot {
         Slot {
@@ -51,8 +51,8 @@ impl Entry for Slot {
     }
 }
 
-/// The most answers that are kept.
-const MOST: usize = 6_291_456;
+/// The most blocks of answers that are kept, of 16 bytes each.
+const MOST: usize = 3_145_728;
 
 /// A store of answers, and what else a search for good hands remembers. A later entry evicts an earlier one. All are
 /// forgotten before there are too many answers.
@@ -63,12 +63,12 @@ pub struct Kept {
     pub fits: FitMemory,
     pub lister: Lister,
     slots: FactTable<Slot>,
-    /// How many answers are kept.
+    /// How many blocks of answers are kept.
     count: usize,
     ghost floods: { flood_table flood ≡ table_of game.rules },
     ghost are_true: { All (IsTrueSlot game) slots },
-    ghost counted: { count ≡ answers_in slots },
-    ghost bounded: { count ≤ 6291456 },
+    ghost counted: { count ≡ blocks_in slots },
+    ghost bounded: { count ≤ 3145728 },
 }
 
 impl Kept {
@@ -141,7 +141,9 @@ impl Kept {
         left: u8,
         hands: &HandSet,
     ) -> Result<Option<(HandSet, HandSet)>, NoMemory>
-        ensures { IfOk result (λ recalled. IfSome recalled (λ v. (hand : ℕ) → (has v.0 hand
+        ensures fewer { IfOk result (λ recalled. IfSome recalled (λ v. (hand : ℕ) → has v.1 hand ≡ true
+            → has hands.now hand ≡ true)) }
+        ensures good { IfOk result (λ recalled. IfSome recalled (λ v. (hand : ℕ) → (has v.0 hand
             || (has v.1 hand && is_good self.now.game (filled position.now.well) position.now.rows left hand))
             ≡ (has hands.now hand && is_good self.now.game (filled position.now.well) position.now.rows left hand))) }
     {
@@ -157,12 +159,12 @@ impl Kept {
     /// Puts an entry in the place of an earlier one. There must be room for its answers.
     fn replace(&mut self, hash: u64, slot: Slot)
         requires holds { IsTrueSlot self.old.game slot }
-        requires room { self.old.count + answers_of slot ≤ 6291456 }
+        requires room { self.old.count + blocks_of slot ≤ 3145728 }
         ensures game { self.new.game ≡ self.old.game }
         ensures slots { self.new.slots ≡ with_entry self.old.slots hash slot }
     {
         if let Some(before) = self.slots.entry(hash) {
-            self.count = self.count - before.len() + slot.len();
+            self.count = self.count - before.block_count() + slot.block_count();
             self.slots.put(hash, slot);
         }
     }
@@ -210,11 +212,11 @@ impl Kept {
     fn note(&mut self, alloc: Global, slot: Slot) -> bool
         requires { IsTrueSlot self.old.game slot }
         ensures game { self.new.game ≡ self.old.game }
-        ensures bounded { answers_in self.new.slots ≤ 6291456 }
-        ensures room { IsTrue result ↔ (answers_of slot ≤ 6291456) × (0 < length self.old.slots) }
+        ensures bounded { blocks_in self.new.slots ≤ 3145728 }
+        ensures room { IsTrue result ↔ (blocks_of slot ≤ 3145728) × (0 < length self.old.slots) }
         ensures kept { IsTrue result → Contains self.new.slots slot }
     {
-        let count = slot.len();
+        let count = slot.block_count();
         if count > MOST || self.slots.is_without_room() {
             return false;
         }
@@ -244,7 +246,7 @@ impl Kept {
         ensures kept { IsTrue result → Keeps self.new.slots (filled position.now.well) position.now.rows left
             found.now missed.now }
     {
-        if found.len() + missed.len() > MOST {
+        if found.block_count() + missed.block_count() > MOST {
             return false;
         }
         match self.entry(alloc, position, left, found, missed) {

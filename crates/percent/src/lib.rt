@@ -1,7 +1,6 @@
 // How many queues of a pattern have a perfect clear, found for all of them at once.
 #![tactic(auto)]
 
-mod allowing;
 mod answered;
 mod answers;
 mod building;
@@ -12,6 +11,7 @@ mod kept;
 pub mod laws;
 mod listed;
 mod marks;
+mod narrowing;
 mod order;
 mod position;
 mod spread;

@@ -1,9 +1,11 @@
 // The tilings at a position: listed there, or those at the position before it that have the piece placed since.
-ghost use Rattle.std.specs.Prelude.{◌≡◌, ◌≤◌, IfSome};
-ghost use Rattle.well.specs.Well.{filled};
+ghost use Rattle.std.specs.Prelude.{◌≡◌, ◌≤◌, ℕ, Bool, IfSome};
+ghost use Rattle.hands.specs.HandSets.{has};
 ghost use Rattle.percent.specs.Children.{IsChild};
+ghost use Rattle.percent.specs.ListedHands.{AreMarksOf, AreRestsAt};
 
 use crate::fitting::{Counts, counts_of};
+use crate::game::Game;
 use crate::marks::{Mark, Marks, index_of};
 use crate::position::{Child, Position};
 use crate::spread::rows_among;
@@ -16,7 +18,13 @@ use tiled_pieces::Lister;
 /// The counts of some hands, each once, or none if there are more than `most` of them or not enough memory for them.
 fn all_counts(alloc: Global, hands: &HandSet, pieces: u8, most: usize) -> Vec<Counts> {
     let mut v = Vec::new(alloc);
-    for hand in hands.numbers() {
+    if most == 0 {
+        return v;
+    }
+    let Ok(numbers) = hands.numbers(alloc) else {
+        return v;
+    };
+    for hand in &numbers {
         let counts = counts_of(*hand, pieces);
         if v.as_slice().contains(&counts) {
             continue;
@@ -46,32 +54,34 @@ fn most_counts(hold: Hold, rows: u8, left: u8) -> usize {
 pub fn marks_of(
     alloc: Global,
     lister: &mut Lister,
-    hold: Hold,
+    game: &Game,
     position: &Position,
     left: u8,
     hands: &HandSet,
 ) -> Marks
     requires { left ≤ 20 }
-    ensures { result.position ≡ position.now }
+    ensures game { result.game ≡ game.now }
+    ensures position { result.position ≡ position.now }
+    ensures all { (left : ℕ) (hands : ℕ → Bool) → AreMarksOf result left hands }
 {
-    let most = most_counts(hold, position.rows, left);
+    let most = most_counts(game.hold, position.rows, left);
     let all = all_counts(alloc, hands, left + 2, most);
-    let mut marks = Marks::new(alloc, position);
+    let mut marks = Marks::new(alloc, game, position);
     for counts in &all {
         if !marks.list(alloc, lister, *counts) {
-            return Marks::new(alloc, position);
+            return Marks::new(alloc, game, position);
         }
     }
     marks
 }
 
 impl Marks {
-    ghost use Rattle.std.specs.Prelude.{◌+◌, ◌<◌, ℕ, slice_index};
+    ghost use Rattle.std.specs.Prelude.{◌+◌, ◌<◌, slice_index};
     ghost use Rattle.lane_board.specs.Field.{difference};
     ghost use Rattle.empty_cells.specs.Empties.{empty_cells};
     ghost use Rattle.empty_cells.specs.SentCells.{sent_cells};
     ghost use Rattle.percent.specs.Fitting.{codes_in};
-    ghost use Rattle.percent.specs.Marks.{IsTrueMark};
+    ghost use Rattle.percent.specs.ListedHands.{IsRestAt, ListsHand};
 
     /// The mark of the pieces of a hand after a placement: the tilings that have its piece. `None` if they had no mark
     /// before it, or if there is not enough memory.
@@ -85,12 +95,12 @@ impl Marks {
         taken: &Empties,
     ) -> Option<Mark>
         requires few { left ≤ 20 }
-        requires child { IsChild (filled self.now.position.well) self.now.position.rows child.now.placement.piece
-            child.now }
+        requires child { IsChild self.now.game self.now.position child.now.placement.piece child.now }
         requires counts { (code : ℕ) → code < 8 → slice_index counts code ≡ codes_in (left + 1) hand code }
         requires taken { empty_cells taken.now ≡ sent_cells self.now.rows child.now.placement }
-        ensures { IfSome result (IsTrueMark (difference (empty_cells self.now.cells)
-            (sent_cells self.now.rows child.now.placement))) }
+        ensures { IfSome result (λ mark. (rest : ℕ) → IsRestAt self.now child.now.placement.piece left rest
+            → ListsHand (difference (empty_cells self.now.cells) (sent_cells self.now.rows child.now.placement))
+            self.now.drops self.now.game.hold left rest mark) }
     {
         let piece = child.placement.piece;
         let index = self.index_with(hand, left, piece, None)?;
@@ -105,15 +115,21 @@ impl Marks {
     /// there is not enough memory is left out.
     pub fn after(&self, alloc: Global, child: &Child, left: u8, hands: &HandSet) -> Marks
         requires few { left ≤ 20 }
-        requires child { IsChild (filled self.now.position.well) self.now.position.rows child.now.placement.piece
-            child.now }
-        ensures { result.position ≡ child.now.position }
+        requires child { IsChild self.now.game self.now.position child.now.placement.piece child.now }
+        requires rests { AreRestsAt self.now child.now.placement.piece left (has hands.now) }
+        ensures game { result.game ≡ self.now.game }
+        ensures position { result.position ≡ child.now.position }
+        ensures lists { AreMarksOf result left (has hands.now) }
     {
         let taken = self.taken(&child.placement);
         let cells = self.cells.without_cells(&taken);
         let mut known = Vec::new(alloc);
         let mut likely = None;
-        for hand in hands.numbers() {
+        let numbers = match hands.numbers(alloc) {
+            Ok(numbers) => numbers,
+            Err(_) => Vec::new(alloc),
+        };
+        for hand in &numbers {
             let counts = counts_of(*hand, left + 1);
             likely = index_of(known.as_slice(), &counts, likely);
             if likely.is_some() {
@@ -124,6 +140,8 @@ impl Marks {
             }
         }
         Marks {
+            game: self.game,
+            drops: self.drops,
             position: child.position,
             cells,
             rows: rows_among(&self.rows, self.position.rows, cells.rows()),
@@ -137,7 +155,6 @@ impl Marks {
 pub fn marks_after(
     alloc: Global,
     lister: &mut Lister,
-    hold: Hold,
     marks: &Marks,
     child: &Child,
     left: u8,
@@ -145,12 +162,14 @@ pub fn marks_after(
 ) -> Marks
     requires some { 1 ≤ left }
     requires few { left ≤ 20 }
-    requires child { IsChild (filled marks.now.position.well) marks.now.position.rows child.now.placement.piece
-        child.now }
-    ensures { result.position ≡ child.now.position }
+    requires child { IsChild marks.now.game marks.now.position child.now.placement.piece child.now }
+    requires rests { AreRestsAt marks.now child.now.placement.piece left (has hands.now) }
+    ensures game { result.game ≡ marks.now.game }
+    ensures position { result.position ≡ child.now.position }
+    ensures lists { AreMarksOf result left (has hands.now) }
 {
     if marks.is_empty() {
-        return marks_of(alloc, lister, hold, &child.position, left - 1, hands);
+        return marks_of(alloc, lister, &marks.game, &child.position, left - 1, hands);
     }
     marks.after(alloc, child, left, hands)
 }

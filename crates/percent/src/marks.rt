@@ -1,6 +1,7 @@
 // The ordered tilings of a position's empty cells by the available pieces: those whose rows can go one after the other.
 // Placements fill the cells in no other tiling. So where a piece stands in none of these, no perfect clear follows.
-ghost use Rattle.std.specs.Prelude.{◌≡◌, ◌≤◌, ◌<◌, ◌&&◌, ℕ, IsTrue, IfOk, IfSome, IsSomeAnd, All, false, slice_index};
+// Tilings that serve none of the hands asked about may be left out.
+ghost use Rattle.std.specs.Prelude.{◌≡◌, ◌≤◌, ◌<◌, ◌&&◌, ℕ, IsTrue, IfOk, IfSome, IsSomeAnd, All, true, false, length, slice_index};
 ghost use Rattle.srs.specs.declared.placement.Placement.{Placement};
 ghost use Rattle.well.specs.Well.{filled};
 ghost use Rattle.well.specs.Free.{is_free};
@@ -8,8 +9,9 @@ ghost use Rattle.well.specs.LockLaws.{is_below};
 ghost use Rattle.empty_cells.specs.Empties.{empty_cells};
 ghost use Rattle.empty_cells.specs.SentCells.{sent_cells};
 ghost use Rattle.lane_board.specs.Lanes.{has_bit};
-ghost use Rattle.hands.specs.HandSets.{has, in_order};
-ghost use Rattle.percent.specs.declared.game.Game.{Game};
+ghost use Rattle.hands.specs.HandSets.{has};
+ghost use Rattle.hands.specs.Numbers.{has_number};
+ghost use Rattle.percent.specs.BuiltHands.{IsHardSrs};
 ghost use Rattle.percent.specs.Children.{IsChild};
 ghost use Rattle.percent.specs.Counts.{codes_with};
 ghost use Rattle.percent.specs.GoodHands.{is_good};
@@ -17,6 +19,7 @@ ghost use Rattle.percent.specs.Marks.{AreIndexes, HasMarkAt, IsMarkOf, IsStandin
 ghost use Rattle.percent.specs.Spread.{IsSpread};
 
 use crate::fitting::{Counts, FitMemory, are_same, counts_of, fitting};
+use crate::game::Game;
 use crate::position::{Child, Position};
 use empty_cells::Empties;
 use hands::HandSet;
@@ -28,17 +31,20 @@ use tiled_pieces::{Lister, TilingList};
 /// The most tilings that are listed at a position.
 const MOST: usize = 131_072;
 
-/// All ordered tilings by pieces with these counts.
+/// Ordered tilings by pieces with these counts.
 #[derive(Drop)]
 pub struct Mark {
     pub counts: Counts,
     pub tilings: TilingList,
 }
 
-/// A position, and all ordered tilings of its empty cells by some pieces. The tilings lie in the field at which they were
+/// A position, and ordered tilings of its empty cells by some pieces. The tilings lie in the field at which they were
 /// listed, where rows that are removed since then still stand.
 #[derive(Drop)]
 pub struct Marks {
+    pub game: Game,
+    /// Whether nothing may lie above a placement.
+    pub drops: bool,
     pub position: Position,
     /// The empty cells in that field.
     pub cells: Empties,
@@ -46,20 +52,23 @@ pub struct Marks {
     pub rows: [u8; 8],
     pub known: Vec<Mark>,
     ghost spread: { IsSpread (filled position.well) position.rows rows (empty_cells cells) },
-    ghost are_true: { All (IsTrueMark (empty_cells cells)) known.items },
+    ghost hard: { drops ≡ true → IsHardSrs game },
 }
 
-/// Rests of hands, and for each the index of the mark of its pieces, if there is one.
+/// Rests of hands, their numbers, and for each the index of the mark of its pieces, if there is one.
 #[derive(Drop)]
 pub struct Asked {
     pub rests: HandSet,
+    pub numbers: Vec<u64>,
     pub indexes: Vec<Option<u8>>,
+    ghost listed: { (rest : ℕ) → has_number numbers.items rest ≡ has rests rest },
 }
 
 /// The counts of the first `pieces` pieces of a hand and of one more piece.
 pub fn counts_with(hand: u64, pieces: u8, piece: Piece) -> Counts
     requires { pieces ≤ 21 }
-    ensures { (code : ℕ) → code < 8 → codes_with piece pieces hand code ≤ slice_index result code }
+    ensures size { length result ≡ 8 }
+    ensures each { (code : ℕ) → code < 8 → slice_index result code ≡ codes_with piece pieces hand code }
 {
     let mut counts = counts_of(hand, pieces);
     let code = usize::from(piece.code());
@@ -126,11 +135,18 @@ fn may_stand(index: Option<u8>, standing: u64) -> bool
 }
 
 impl Marks {
+    ghost use Rattle.std.specs.Prelude.{[]};
+    ghost use Rattle.percent.specs.ListedHands.{AreRestsAt};
+
     /// Nothing is known yet about the empty cells of a position.
-    pub fn new(alloc: Global, position: &Position) -> Marks
-        ensures { result.position ≡ position.now }
+    pub fn new(alloc: Global, game: &Game, position: &Position) -> Marks
+        ensures game { result.game ≡ game.now }
+        ensures position { result.position ≡ position.now }
+        ensures none { result.known.items ≡ [] }
     {
         Marks {
+            game: *game,
+            drops: game.drops(),
             position: *position,
             cells: Empties::below(&position.well, position.rows),
             rows: [0, 1, 2, 3, 4, 5, 6, 7],
@@ -164,7 +180,10 @@ impl Marks {
 
     /// Lists all ordered tilings by pieces with these counts, and says whether they could be listed.
     pub fn list(&mut self, alloc: Global, lister: &mut Lister, counts: Counts) -> bool
-        ensures { self.new.position ≡ self.old.position }
+        requires { All (IsTrueMark (empty_cells self.old.cells)) self.old.known.items }
+        ensures game { self.new.game ≡ self.old.game }
+        ensures position { self.new.position ≡ self.old.position }
+        ensures are_true { All (IsTrueMark (empty_cells self.new.cells)) self.new.known.items }
     {
         let most = MOST.saturating_sub(self.count_tilings());
         match listed(alloc, lister, &self.cells, counts, most) {
@@ -199,27 +218,30 @@ impl Marks {
     ) -> Result<Asked, NoMemory>
         requires { left ≤ 20 }
         ensures rests { IfOk result (λ asked. asked.rests ≡ rests) }
-        ensures indexes { IfOk result (λ asked. AreIndexes self.now.known.items piece left (in_order asked.rests)
+        ensures indexes { IfOk result (λ asked. AreIndexes self.now.known.items piece left asked.numbers.items
             asked.indexes.items) }
     {
-        let mut indexes = Vec::with_capacity(alloc, rests.len())?;
+        let numbers = rests.numbers(alloc)?;
+        let mut indexes = Vec::with_capacity(alloc, numbers.len())?;
         let mut index = None;
-        for rest in rests.numbers() {
+        for rest in &numbers {
             index = self.index_with(*rest, left, piece, index);
             indexes.push(index)?;
         }
-        Ok(Asked { rests, indexes })
+        Ok(Asked {
+            rests,
+            numbers,
+            indexes,
+        })
     }
 
     /// The index of the mark of a rest: the one that is known, if the rest stands there among those asked about.
     fn index_for(&self, asked: &Asked, at: usize, rest: u64, left: u8, piece: Piece) -> Option<u8>
         requires few { left ≤ 20 }
-        requires indexes { AreIndexes self.now.known.items piece left (in_order asked.now.rests)
-            asked.now.indexes.items }
+        requires indexes { AreIndexes self.now.known.items piece left asked.now.numbers.items asked.now.indexes.items }
         ensures { IfSome result (IsMarkOf self.now.known.items piece left rest) }
     {
-        let rests = asked.rests.numbers();
-        if at < rests.len() && rests[at] == rest {
+        if at < asked.numbers.len() && asked.numbers[at] == rest {
             return asked.indexes[at];
         }
         self.index_with(rest, left, piece, None)
@@ -235,22 +257,25 @@ impl Marks {
         rests: HandSet,
     ) -> Result<Asked, NoMemory>
         requires few { left ≤ 20 }
-        requires indexes { AreIndexes self.now.known.items piece left (in_order asked.now.rests)
-            asked.now.indexes.items }
+        requires indexes { AreIndexes self.now.known.items piece left asked.now.numbers.items asked.now.indexes.items }
         ensures rests { IfOk result (λ asked. asked.rests ≡ rests) }
-        ensures indexes { IfOk result (λ asked. AreIndexes self.now.known.items piece left (in_order asked.rests)
+        ensures indexes { IfOk result (λ asked. AreIndexes self.now.known.items piece left asked.numbers.items
             asked.indexes.items) }
     {
-        let mut indexes = Vec::with_capacity(alloc, rests.len())?;
-        let before = asked.rests.numbers();
+        let numbers = rests.numbers(alloc)?;
+        let mut indexes = Vec::with_capacity(alloc, numbers.len())?;
         let mut next = 0;
-        for rest in rests.numbers() {
-            while next < before.len() && before[next] < *rest {
+        for rest in &numbers {
+            while next < asked.numbers.len() && asked.numbers[next] != *rest {
                 next += 1;
             }
             indexes.push(self.index_for(asked, next, *rest, left, piece))?;
         }
-        Ok(Asked { rests, indexes })
+        Ok(Asked {
+            rests,
+            numbers,
+            indexes,
+        })
     }
 
     /// Those of the rests asked about with which a placement may stand in a tiling. The others are not good after it.
@@ -262,19 +287,21 @@ impl Marks {
         asked: &Asked,
     ) -> Result<HandSet, NoMemory>
         requires few { left ≤ 20 }
-        requires indexes { AreIndexes self.now.known.items child.now.placement.piece left (in_order asked.now.rests)
+        requires indexes { AreIndexes self.now.known.items child.now.placement.piece left asked.now.numbers.items
             asked.now.indexes.items }
-        requires child { IsChild (filled self.now.position.well) self.now.position.rows child.now.placement.piece
-            child.now }
+        requires child { IsChild self.now.game self.now.position child.now.placement.piece child.now }
+        requires rests { AreRestsAt self.now child.now.placement.piece left (has asked.now.rests) }
         requires standing { IsStanding self.now.known.items self.now.rows child.now.placement child.now.standing }
-        ensures { IfOk result (λ likely. (game : Game) (rest : ℕ)
-            → (has likely rest && is_good game (filled child.now.position.well) child.now.position.rows left rest)
+        ensures fewer { IfOk result (λ likely. (rest : ℕ) → has likely rest ≡ true → has asked.now.rests rest ≡ true) }
+        ensures good { IfOk result (λ likely. (rest : ℕ)
+            → (has likely rest
+            && is_good self.now.game (filled child.now.position.well) child.now.position.rows left rest)
             ≡ (has asked.now.rests rest
-            && is_good game (filled child.now.position.well) child.now.position.rows left rest)) }
+            && is_good self.now.game (filled child.now.position.well) child.now.position.rows left rest)) }
     {
-        let rests = asked.rests.numbers();
+        let rests = asked.numbers.as_slice();
         let indexes = asked.indexes.as_slice();
-        let mut likely = HandSet::with_room(alloc, rests.len())?;
+        let mut likely = HandSet::with_room_of(alloc, &asked.rests)?;
         for index in 0..rests.len() {
             if may_stand(indexes[index], child.standing) {
                 likely.insert(rests[index])?;
@@ -282,30 +309,32 @@ impl Marks {
         }
         Ok(likely)
     }
-}
 
-/// Those of the rests asked about that may fit after a placement. The others are not good after it.
-pub fn fitting_after(
-    alloc: Global,
-    fits: &mut FitMemory,
-    marks: &Marks,
-    child: &Child,
-    left: u8,
-    asked: &Asked,
-) -> Result<HandSet, NoMemory>
-    requires few { left ≤ 20 }
-    requires indexes { AreIndexes marks.now.known.items child.now.placement.piece left (in_order asked.now.rests)
-        asked.now.indexes.items }
-    requires child { IsChild (filled marks.now.position.well) marks.now.position.rows child.now.placement.piece
-        child.now }
-    requires standing { IsStanding marks.now.known.items marks.now.rows child.now.placement child.now.standing }
-    ensures { IfOk result (λ likely. (game : Game) (rest : ℕ)
-        → (has likely rest && is_good game (filled child.now.position.well) child.now.position.rows left rest)
-        ≡ (has asked.now.rests rest
-        && is_good game (filled child.now.position.well) child.now.position.rows left rest)) }
-{
-    if marks.is_empty() && left > 0 {
-        return fitting(alloc, fits, &child.position, left, &asked.rests);
+    /// Those of the rests asked about that may fit after a placement. The others are not good after it.
+    pub fn fitting_after(
+        &self,
+        alloc: Global,
+        fits: &mut FitMemory,
+        child: &Child,
+        left: u8,
+        asked: &Asked,
+    ) -> Result<HandSet, NoMemory>
+        requires few { left ≤ 20 }
+        requires indexes { AreIndexes self.now.known.items child.now.placement.piece left asked.now.numbers.items
+            asked.now.indexes.items }
+        requires child { IsChild self.now.game self.now.position child.now.placement.piece child.now }
+        requires rests { AreRestsAt self.now child.now.placement.piece left (has asked.now.rests) }
+        requires standing { IsStanding self.now.known.items self.now.rows child.now.placement child.now.standing }
+        ensures fewer { IfOk result (λ likely. (rest : ℕ) → has likely rest ≡ true → has asked.now.rests rest ≡ true) }
+        ensures good { IfOk result (λ likely. (rest : ℕ)
+            → (has likely rest
+            && is_good self.now.game (filled child.now.position.well) child.now.position.rows left rest)
+            ≡ (has asked.now.rests rest
+            && is_good self.now.game (filled child.now.position.well) child.now.position.rows left rest)) }
+    {
+        if self.is_empty() && left > 0 {
+            return fitting(alloc, fits, &child.position, left, asked.numbers.as_slice());
+        }
+        self.likely(alloc, child, left, asked)
     }
-    marks.likely(alloc, child, left, asked)
 }

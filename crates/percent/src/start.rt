@@ -35,13 +35,13 @@ fn first_position(problem: &Problem) -> Position
     }
 }
 
-/// For how many positions answers are kept, given how many hands are asked about and how many placements are to come:
-/// a power of two.
-fn room_for(hands: usize, left: u8) -> usize
+/// For how many positions answers are kept, given how many blocks of hands are asked about and how many placements are to
+/// come: a power of two.
+fn room_for(blocks: usize, left: u8) -> usize
     ensures { (exponent : ℕ) × (result ≡ 2 ^ exponent) }
 {
     let for_each = if left > 10 { 64 } else { 4 };
-    match hands.saturating_mul(for_each) {
+    match blocks.saturating_mul(for_each) {
         0..=8192 => 8192,
         8193..=65_536 => 65_536,
         _ => 262_144,
@@ -53,11 +53,11 @@ fn room_for(hands: usize, left: u8) -> usize
 pub fn good_hands<L: Ledger>(
     alloc: Global,
     problem: &Problem,
-    hands: HandSet,
+    hands: &HandSet,
     steps: &mut Steps<L>,
 ) -> Result<HandSet, NoMemory>
     requires { IsFit problem.now }
-    ensures members { IfOk result (λ good. (hand : ℕ) → has good hand ≡ (has hands hand
+    ensures members { IfOk result (λ good. (hand : ℕ) → has good hand ≡ (has hands.now hand
         && is_good (game_of problem.now) (filled problem.now.well) problem.now.height (needed_of problem.now) hand)) }
     ensures counted { steps.old ≤ steps.new }
 {
@@ -70,10 +70,11 @@ pub fn good_hands<L: Ledger>(
         drop_mode: problem.drop_mode,
         hold: problem.hold,
     };
-    let mut kept = Kept::new(alloc, game, room_for(hands.len(), left));
+    let mut kept = Kept::new(alloc, game, room_for(hands.block_count(), left));
     let position = first_position(problem);
-    let fit = fitting(alloc, &mut kept.fits, &position, left, &hands)?;
-    drop(hands);
+    let numbers = hands.numbers(alloc)?;
+    let fit = fitting(alloc, &mut kept.fits, &position, left, numbers.as_slice())?;
+    drop(numbers);
     answered_first(alloc, &mut kept, &position, left, &fit, steps)
 }
 
@@ -102,6 +103,6 @@ pub fn solvable<L: Ledger>(
     let hand = hand_of(problem.hold, problem.held, needed(problem), queue);
     let mut hands = HandSet::none(alloc);
     hands.insert(hand)?;
-    let good = good_hands(alloc, problem, hands, steps)?;
+    let good = good_hands(alloc, problem, &hands, steps)?;
     Ok(good.has(hand))
 }

@@ -1,19 +1,22 @@
 -- Each answer is made of lists whose contracts say what they have.
-use Rattle.std.proofs.Common.{◌≡◌, ◌<◌, ℕ, ◌+◌, ◌-◌, ◌&&◌, ◌||◌, All, Bool, not, List, length, get_or, true, ap, subst, ◌∙◌, sym, arith}
+use Rattle.std.proofs.Common.{◌≡◌, ◌<◌, ℕ, ◌+◌, ◌-◌, ◌&&◌, ◌||◌, All, Bool, not, List, length, get_or, rules, true, ap, subst, ◌∙◌, sym, arith}
 use Rattle.std.specs.Prelude.{IsPermutation, Option, Some, IfSome}
 use Rattle.srs.specs.declared.piece.Piece.{Piece}
+use Rattle.srs.specs.declared.piece.Piece.TheVariants.{I}
 use Rattle.srs.specs.Piece.{all_pieces}
 use Rattle.std.proofs.lemmas.List.Sorted.{length_permutation}
 use Rattle.well.specs.Well.{filled}
 use Rattle.hands.specs.declared.hand_set.HandSet.{HandSet}
-use Rattle.hands.specs.HandSets.{has, in_order}
+use Rattle.hands.specs.HandSets.{has}
 use Rattle.percent.specs.declared.position.Child.{Child}
 use Rattle.percent.specs.declared.game.Game.{Game}
 use Rattle.percent.specs.Children.{IsChild}
+use Rattle.percent.specs.ListedHands.{AreRestsAt}
 use Rattle.percent.specs.Marks.{AreIndexes, IsStanding}
 use Rattle.percent.specs.GoodHands.{is_good, is_good_after, is_good_at}
 use Rattle.std.proofs.lemmas.Result.{IfOk-weaker}
-use Rattle.percent.proofs.GoodSteps.{answer-found, answer-known, answers-at, explore-open, explore-step, found-good, good-ends, none-of, open-bad, try-all, try-ends, try-starts, try-step}
+use Rattle.percent.proofs.GoodSteps.{answer-found, answer-known, answer-looked, answers-at, explore-open, explore-step, found-good, good-ends, none-of, open-bad, try-all, try-ends, try-starts, try-step}
+use Rattle.percent.proofs.RestLemmas.{first-true, rests-at, rests-fewer}
 use Rattle.percent.proofs.answered.+search.Goals as goal
 
 -- what holds of a value that may be there holds of the one that is
@@ -29,7 +32,7 @@ answered-returns-then-left-eq0-clause-members g t c =
 pub answered-returns-then-is_empty-clause-members : goal.answered-returns-then-is_empty-clause-members
 answered-returns-then-is_empty-clause-members g t c = λ hand.
     let p = c.args.child.now.position in
-    c.none.ensures hand ∙ none-of c.args.hands.now (is_good c.args.kept.now.game (filled p.well) p.rows c.args.left) hand (c.is_empty.ensures.0 c.if-is_empty.true hand)
+    c.none.ensures.none hand ∙ none-of c.args.hands.now (is_good c.args.kept.now.game (filled p.well) p.rows c.args.left) hand (c.is_empty.ensures.0 c.if-is_empty.true hand)
 
 pub answered-returns-then-is_empty-2-clause-members : goal.answered-returns-then-is_empty-2-clause-members
 answered-returns-then-is_empty-2-clause-members g t c =
@@ -37,7 +40,7 @@ answered-returns-then-is_empty-2-clause-members g t c =
     let good : ℕ → Bool = is_good c.args.kept.now.game (filled p.well) p.rows c.args.left in
     answer-known c.in-Some.known c.in-Some.unknown c.args.hands.now good
     (some-holds c.in_ok-known.field-0 (c.in-Some.known, c.in-Some.unknown) c.in-Some.is
-    (λ v. (hand : ℕ) → (has v.0 hand || (has v.1 hand && good hand)) ≡ (has c.args.hands.now hand && good hand)) c.in_ok-known.ensures)
+    (λ v. (hand : ℕ) → (has v.0 hand || (has v.1 hand && good hand)) ≡ (has c.args.hands.now hand && good hand)) c.in_ok-known.ensures.good)
     (c.is_empty-2.ensures.0 c.if-is_empty-2.true)
 
 pub answered-returns-then-is_empty-3-clause-members : goal.answered-returns-then-is_empty-3-clause-members
@@ -46,14 +49,25 @@ answered-returns-then-is_empty-3-clause-members g t c =
     let good : ℕ → Bool = is_good c.args.kept.now.game (filled p.well) p.rows c.args.left in
     answer-found c.in-Some.known c.in-Some.unknown c.in_ok-found.found c.args.hands.now good
     (some-holds c.in_ok-known.field-0 (c.in-Some.known, c.in-Some.unknown) c.in-Some.is
-    (λ v. (hand : ℕ) → (has v.0 hand || (has v.1 hand && good hand)) ≡ (has c.args.hands.now hand && good hand)) c.in_ok-known.ensures)
+    (λ v. (hand : ℕ) → (has v.0 hand || (has v.1 hand && good hand)) ≡ (has c.args.hands.now hand && good hand)) c.in_ok-known.ensures.good)
     (c.is_empty-3.ensures.0 c.if-is_empty-3.true) c.in_ok-found.ensures.members
+
+pub answered-returns-clause-members : goal.answered-returns-clause-members
+answered-returns-clause-members g t c =
+    let p = c.args.child.now.position in
+    let good : ℕ → Bool = is_good c.args.kept.now.game (filled p.well) p.rows c.args.left in
+    IfOk-weaker c.merged.result _ _
+    (λ v h. answer-looked c.in-Some.known c.in-Some.unknown c.in_ok-found.found c.args.hands.now v good
+    (some-holds c.in_ok-known.field-0 (c.in-Some.known, c.in-Some.unknown) c.in-Some.is
+    (λ v. (hand : ℕ) → (has v.0 hand || (has v.1 hand && good hand)) ≡ (has c.args.hands.now hand && good hand)) c.in_ok-known.ensures.good)
+    c.in_ok-found.ensures.members h)
+    c.merged.ensures
 
 pub searched-keep-requires-clause-found_true : goal.searched-keep-requires-clause-found_true
 searched-keep-requires-clause-found_true g t c = λ hand there.
     let p = c.args.child.now.position in
     let answers = answers-at c.args.kept.now.game c.marks_after-below.result.position p (c.args.left - 1 + 1) c.args.left c.args.hands.now c.in_ok-good.good c.in_ok-good.bad
-    c.marks_after-below.ensures (omega (arith, c.requires.some)) c.in_ok-good.ensures.answers in
+    c.marks_after-below.ensures.position (omega (arith, c.requires.some)) c.in_ok-good.ensures.answers in
     ap (λ (game : Game). is_good game (filled p.well) p.rows c.args.left hand) c.in_ok-good.ensures.game
     ∙ found-good c.in_ok-good.good c.args.hands.now (is_good c.args.kept.now.game (filled p.well) p.rows c.args.left) answers.goods hand there
 
@@ -61,17 +75,24 @@ pub searched-keep-requires-clause-missed_true : goal.searched-keep-requires-clau
 searched-keep-requires-clause-missed_true g t c = λ hand there.
     let p = c.args.child.now.position in
     let answers = answers-at c.args.kept.now.game c.marks_after-below.result.position p (c.args.left - 1 + 1) c.args.left c.args.hands.now c.in_ok-good.good c.in_ok-good.bad
-    c.marks_after-below.ensures (omega (arith, c.requires.some)) c.in_ok-good.ensures.answers in
+    c.marks_after-below.ensures.position (omega (arith, c.requires.some)) c.in_ok-good.ensures.answers in
     ap (λ (game : Game). is_good game (filled p.well) p.rows c.args.left hand) c.in_ok-good.ensures.game
     ∙ open-bad c.args.hands.now c.in_ok-good.bad (is_good c.args.kept.now.game (filled p.well) p.rows c.args.left) answers.bads hand there
 
 pub searched-returns-clause-members : goal.searched-returns-clause-members
 searched-returns-clause-members g t c =
     (answers-at c.args.kept.now.game c.marks_after-below.result.position c.args.child.now.position (c.args.left - 1 + 1) c.args.left c.args.hands.now c.in_ok-good.good c.in_ok-good.bad
-    c.marks_after-below.ensures (omega (arith, c.requires.some)) c.in_ok-good.ensures.answers).goods
+    c.marks_after-below.ensures.position (omega (arith, c.requires.some)) c.in_ok-good.ensures.answers).goods
 
 seven : (order : List Piece) → IsPermutation all_pieces order → length order ≡ 7
 seven order same = length_permutation all_pieces order same
+
+pub missed-tried-requires : goal.missed-tried-requires
+missed-tried-requires g t c =
+    let link = c.loop-piece.invariant.same ∙ c.requires.game in
+    let rests = rests-at c.args.marks.now (get_or c.wanted_first-order.result c.loop-piece.piece-index I) c.args.left c.loop-piece.kept.game.hold c.args.hands c.loop-piece.open c.in_ok-rests.rests (ap (λ (game : Game). game.hold) link)
+    (λ hand. first-true (has c.loop-piece.open hand) (has c.args.hands hand) _ (c.loop-piece.invariant.members hand)) c.in_ok-rests.ensures c.requires.lists in
+    search (rules, link, rests)
 
 pub missed-loop-piece-preserved : goal.missed-loop-piece-preserved
 missed-loop-piece-preserved g t c =
@@ -93,7 +114,7 @@ missed-returns-clause-members g t c = λ hand.
 pub tried-returns-then-is_empty-clause-members : goal.tried-returns-then-is_empty-clause-members
 tried-returns-then-is_empty-clause-members g t c = λ rest.
     let p = c.args.marks.now.position in
-    c.none.ensures rest ∙ none-of c.args.rests.now (is_good_after c.args.kept.now.game (filled p.well) p.rows c.args.piece c.args.left) rest (c.is_empty.ensures.0 c.if-is_empty.true rest)
+    c.none.ensures.none rest ∙ none-of c.args.rests.now (is_good_after c.args.kept.now.game (filled p.well) p.rows c.args.piece c.args.left) rest (c.is_empty.ensures.0 c.if-is_empty.true rest)
 
 -- all rests are asked about at first
 all-asked : (asked all rests : HandSet) → asked ≡ all → ((rest : ℕ) → has all rest ≡ has rests rest) → (rest : ℕ) → has asked rest ≡ has rests rest
@@ -112,10 +133,10 @@ holds_of P items children i child same all within is = subst P (sym is) (subst (
 
 pub tried-fitting_after-requires-clause-child : goal.tried-fitting_after-requires-clause-child
 tried-fitting_after-requires-clause-child g t c =
-    let p = c.args.marks.now.position in
-    let is = holds_of (IsChild (filled p.well) p.rows c.args.piece) c.in_ok-children.children.items c.deref-child-items.result.now c.loop-child.child-index c.child-item.result
+    let marks = c.args.marks.now in
+    let is = holds_of (IsChild marks.game marks.position c.args.piece) c.in_ok-children.children.items c.deref-child-items.result.now c.loop-child.child-index c.child-item.result
     c.deref-child-items.ensures.value c.in_ok-children.ensures.after c.loop-child-test.true c.child-item.is in
-    subst (λ piece. IsChild (filled p.well) p.rows piece c.child-item.result) (sym is.kind) is
+    subst (λ piece. IsChild marks.game marks.position piece c.child-item.result) (sym is.kind) is
 
 pub tried-fitting_after-requires-clause-standing : goal.tried-fitting_after-requires-clause-standing
 tried-fitting_after-requires-clause-standing g t c =
@@ -125,10 +146,19 @@ tried-fitting_after-requires-clause-standing g t c =
 
 pub tried-fitting_after-requires-clause-indexes : goal.tried-fitting_after-requires-clause-indexes
 tried-fitting_after-requires-clause-indexes g t c =
-    let p = c.args.marks.now.position in
-    let is = holds_of (IsChild (filled p.well) p.rows c.args.piece) c.in_ok-children.children.items c.deref-child-items.result.now c.loop-child.child-index c.child-item.result
+    let marks = c.args.marks.now in
+    let is = holds_of (IsChild marks.game marks.position c.args.piece) c.in_ok-children.children.items c.deref-child-items.result.now c.loop-child.child-index c.child-item.result
     c.deref-child-items.ensures.value c.in_ok-children.ensures.after c.loop-child-test.true c.child-item.is in
-    subst (λ piece. AreIndexes c.args.marks.now.known.items piece c.args.left (in_order c.loop-child.asked.rests) c.loop-child.asked.indexes.items) (sym is.kind) c.loop-child.invariant.1
+    subst (λ piece. AreIndexes marks.known.items piece c.args.left c.loop-child.asked.numbers.items c.loop-child.asked.indexes.items) (sym is.kind) c.loop-child.invariant.1
+
+pub tried-fitting_after-requires-clause-rests : goal.tried-fitting_after-requires-clause-rests
+tried-fitting_after-requires-clause-rests g t c =
+    let marks = c.args.marks.now in
+    let is = holds_of (IsChild marks.game marks.position c.args.piece) c.in_ok-children.children.items c.deref-child-items.result.now c.loop-child.child-index c.child-item.result
+    c.deref-child-items.ensures.value c.in_ok-children.ensures.after c.loop-child-test.true c.child-item.is in
+    subst (λ piece. AreRestsAt marks piece c.args.left (has c.loop-child.asked.rests)) (sym is.kind)
+    (rests-fewer marks c.args.piece c.args.left (has c.loop-child.asked.rests) (has c.args.rests.now)
+    (λ rest. first-true (has c.loop-child.asked.rests rest) (has c.args.rests.now rest) _ (c.loop-child.invariant.0.members rest)) c.requires.rests)
 
 pub tried-loop-child-preserved : goal.tried-loop-child-preserved
 tried-loop-child-preserved g t c = (
@@ -136,7 +166,10 @@ tried-loop-child-preserved g t c = (
       c.loop-child.asked.rests c.in_ok-good.good c.in_ok-asked-2.asked.rests
       c.args.steps.now c.loop-child.steps c.answered.new.steps c.loop-child.child-index c.child-item.result
       c.loop-child.invariant.0 c.loop-child-test.true (sym c.child-item.is)
-      (λ rest. c.in_ok-good.ensures.members rest ∙ c.in_ok-fit.ensures c.loop-child.kept.game rest)
+      (λ rest. c.in_ok-good.ensures.members rest
+      ∙ subst (λ (game : Game). (has c.in_ok-fit.fit rest && is_good game (filled c.child-item.result.position.well) c.child-item.result.position.rows c.args.left rest)
+      ≡ (has c.loop-child.asked.rests rest && is_good game (filled c.child-item.result.position.well) c.child-item.result.position.rows c.args.left rest))
+      (sym (c.loop-child.invariant.0.same ∙ c.requires.game)) (c.in_ok-fit.ensures.good rest))
       c.in_ok-good.ensures.game c.in_ok-good.ensures.counted c.in_ok-asked-2.ensures.members,
   c.in_ok-asked-2.ensures.indexes,
 )

@@ -1,5 +1,4 @@
 use Rattle.std.proofs.Common.{◌+◌, ◌*◌}
-use Rattle.hands.specs.HandSets.{in_order}
 use Rattle.well.specs.Well.{filled}
 use Rattle.percent.specs.Marks.{AreIndexes}
 use Rattle.percent.proofs.GoodSteps.{Exploring, Trying}
@@ -27,4 +26,4 @@ invariant-missed-loop-piece g l =
 abbrev pub invariant-tried-loop-child : goal.invariant-tried-loop-child
 invariant-tried-loop-child g l =
     Trying l.fn.kept.game l.kept.game l.left l.child-items l.rests l.asked.rests l.fn.steps l.steps l.child-index
-    × AreIndexes l.marks.known.items l.piece l.left (in_order l.asked.rests) l.asked.indexes.items
+    × AreIndexes l.marks.known.items l.piece l.left l.asked.numbers.items l.asked.indexes.items

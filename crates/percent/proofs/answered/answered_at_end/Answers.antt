@@ -11,7 +11,7 @@ pub returns : goal.returns
 returns c = λ hand.
     let some = c.if-position-eq0.false in
     let left : (c.args.position.now.rows == 0) ≡ false = grind (arith, nat_tests) in
-    c.none.ensures hand ∙ sym (and_right (has c.args.hands.now hand) _ left)
+    c.none.ensures.none hand ∙ sym (and_right (has c.args.hands.now hand) _ left)
 
 pub returns-then-position-eq0 : goal.returns-then-position-eq0
 returns-then-position-eq0 c =

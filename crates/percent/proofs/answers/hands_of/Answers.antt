@@ -1,7 +1,7 @@
 -- The hand of each queue is pushed.
-use Rattle.std.proofs.Common.{subst, arith}
+use Rattle.std.proofs.Common.{◌∙◌, ap, subst, arith}
 use Rattle.hands.specs.HandSets.{has}
-use Rattle.hands.specs.Rising.{has_number}
+use Rattle.hands.specs.Numbers.{has_number}
 use Rattle.percent.proofs.AnswerLemmas.{hands-more, hands-none, hands-same}
 use Rattle.percent.specs.GoodHands.{HasHandsBefore}
 use Rattle.std.proofs.lemmas.Result.{IfOk-weaker}
@@ -15,4 +15,4 @@ loop-number-preserved c = rw c.in_ok-push.ensures.items (hands-more c.args.probl
 
 pub returns : goal.returns
 returns c =
-    IfOk-weaker c.of.result _ _ (λ hands h. hands-same c.args.problem.now (has_number c.loop-number.hands.items) (has hands) _ h (subst (HasHandsBefore c.args.problem.now (has_number c.loop-number.hands.items)) (omega (arith, c.count-count.ensures.number)) c.loop-number.invariant)) c.of.ensures
+    IfOk-weaker c.of.result _ _ (λ hands h. hands-same c.args.problem.now (has_number c.loop-number.hands.items) (has hands) _ (λ hand. h hand ∙ ap (λ l. has_number l hand) c.as_slice.ensures.value) (subst (HasHandsBefore c.args.problem.now (has_number c.loop-number.hands.items)) (omega (arith, c.count-count.ensures.number)) c.loop-number.invariant)) c.of.ensures

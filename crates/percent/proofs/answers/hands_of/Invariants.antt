@@ -1,4 +1,4 @@
-use Rattle.hands.specs.Rising.{has_number}
+use Rattle.hands.specs.Numbers.{has_number}
 use Rattle.percent.specs.GoodHands.{HasHandsBefore}
 use Rattle.percent.proofs.answers.hands_of.Given as goal
 

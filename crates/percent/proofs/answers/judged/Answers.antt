@@ -1,7 +1,7 @@
 -- Each queue is judged by its hand.
 use Rattle.std.proofs.Common.{subst, arith}
 use Rattle.percent.specs.GoodHands.{AreAnswers}
-use Rattle.percent.proofs.AnswerLemmas.{judge-starts, judge-more}
+use Rattle.percent.proofs.AnswerLemmas.{judge-starts, judge-more, whole-hands}
 use Rattle.percent.proofs.answers.judged.Goals as goal
 
 pub loop-number-init : goal.loop-number-init
@@ -17,4 +17,4 @@ pub returns : goal.returns
 returns c = subst (AreAnswers c.args.problem.now c.loop-number.answers.items) (omega (arith, c.loop-number-test.false, c.loop-number.auto.number-end, c.count-count.ensures.number)) c.loop-number.invariant
 
 pub all_good-requires-clause-each : goal.all_good-requires-clause-each
-all_good-requires-clause-each c = c.requires.whole (omega (arith, c.len.ensures.value, c.if-len-all.true))
+all_good-requires-clause-each c = whole-hands c.args.problem.now c.args.all.now c.args.good.now _ _ c.in_ok-without.ensures (c.is_empty.ensures.0 c.if-is_empty.true) c.requires.each

@@ -1,9 +1,11 @@
--- The search finds what the list has.
-use Rattle.std.proofs.Common.{◌∙◌, ap}
+-- The block with the hand's key has its ending.
+use Rattle.std.proofs.Common.{◌∙◌}
+use Rattle.hands.specs.Blocks.{have_parts}
 use Rattle.hands.specs.HandSets.{has}
-use Rattle.hands.specs.Rising.{has_number}
 use Rattle.hands.proofs.hand_set.HandSet.has.Goals as goal
 
 pub returns : goal.returns
 unfolding has
-returns c = c.holds.ensures ∙ ap (λ l. has_number l c.args.hand) c.numbers.ensures.value
+returns c =
+    c.has_bit.ensures ∙ c.endings_at.ensures c.split-key.result.1
+    ∙ (λ i. have_parts (c.as_slice.ensures.value i) (c.split-key.ensures.key i) (c.split-key.ensures.ending i))

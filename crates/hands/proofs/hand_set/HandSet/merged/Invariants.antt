@@ -1,12 +1,18 @@
 use Rattle.std.proofs.Common.{◌-◌, length}
-use Rattle.hands.proofs.MergeSteps.{Merging}
+use Rattle.hands.proofs.MergeSteps.{Merged}
 use Rattle.hands.proofs.hand_set.HandSet.merged.Given as goal
 
 abbrev pub invariant-loop-next : goal.invariant-loop-next
-invariant-loop-next l = Merging l.a l.b l.v.items l.x-index l.next
-
-abbrev pub invariant-loop-x : goal.invariant-loop-x
-invariant-loop-x l = Merging l.a l.b l.v.items l.x-index l.next
+invariant-loop-next l = Merged l.hands l.fn.self.blocks.items l.others l.block-index l.next
 
 abbrev pub decreases-loop-next : goal.decreases-loop-next
-decreases-loop-next l = length l.b - l.next
+decreases-loop-next l = length l.others - l.next
+
+abbrev pub invariant-loop-block : goal.invariant-loop-block
+invariant-loop-block l = Merged l.hands l.fn.self.blocks.items l.others l.block-index l.next
+
+abbrev pub invariant-loop-next-2 : goal.invariant-loop-next-2
+invariant-loop-next-2 l = Merged l.hands l.fn.self.blocks.items l.others (length l.fn.self.blocks.items) l.next
+
+abbrev pub decreases-loop-next-2 : goal.decreases-loop-next-2
+decreases-loop-next-2 l = length l.others - l.next

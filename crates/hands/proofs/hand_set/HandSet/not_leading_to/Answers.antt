@@ -1,4 +1,3 @@
--- Where nothing may be left no piece can be taken so.
 use Rattle.srs.specs.Piece.{piece_code}
 use Rattle.hands.specs.HandSets.{has}
 use Rattle.hands.proofs.HandLemmas.{takes-none}

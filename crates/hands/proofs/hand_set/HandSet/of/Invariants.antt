@@ -1,5 +1,6 @@
-use Rattle.hands.proofs.SetSteps.{Collecting}
+use Rattle.std.proofs.Common.{[]}
+use Rattle.hands.proofs.MergeSteps.{Merged}
 use Rattle.hands.proofs.hand_set.HandSet.of.Given as goal
 
-abbrev pub invariant-loop-x : goal.invariant-loop-x
-invariant-loop-x l = Collecting l.x-items l.v.items l.x-index
+abbrev pub invariant-loop-block : goal.invariant-loop-block
+invariant-loop-block l = Merged l.hands l.block-items [] l.block-index 0

@@ -1,6 +1,6 @@
 use Rattle.hands.specs.Hands.{with_second}
-use Rattle.hands.proofs.RestSteps.{Resting}
+use Rattle.hands.proofs.RestSteps.{HasLeft}
 use Rattle.hands.proofs.hand_set.HandSet.without_second.Given as goal
 
-abbrev pub invariant-loop-hand : goal.invariant-loop-hand
-invariant-loop-hand l = Resting (with_second l.code) l.hands l.v.items l.hand-index
+abbrev pub invariant-loop-block : goal.invariant-loop-block
+invariant-loop-block l = HasLeft (with_second l.code) l.self.blocks.items l.block-index l.rests

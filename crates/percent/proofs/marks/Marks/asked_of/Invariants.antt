@@ -6,4 +6,4 @@ abbrev pub invariant-loop-rest : goal.invariant-loop-rest
 invariant-loop-rest l = AreIndexesBefore l.self.known.items l.piece l.left l.rest-items l.indexes.items l.rest-index
 
 abbrev pub decreases-loop-next : goal.decreases-loop-next
-decreases-loop-next l = length l.before - l.next
+decreases-loop-next l = length l.asked.numbers.items - l.next

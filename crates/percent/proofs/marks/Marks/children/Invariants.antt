@@ -1,5 +1,6 @@
 -- The positions so far and the places that are still held.
 use Rattle.std.proofs.Common.{All}
+use Rattle.percent.specs.Children.{IsChild}
 use Rattle.percent.specs.Marks.{IsStanding}
 use Rattle.well.specs.Well.{filled}
 use Rattle.percent.proofs.PlaceLemmas.{Entering, held_count}
@@ -8,6 +9,7 @@ use Rattle.percent.proofs.marks.Marks.children.Given as goal
 abbrev pub invariant-loop-placement : goal.invariant-loop-placement
 invariant-loop-placement g l =
     Entering l.kept.game (filled l.position.well) l.position.rows l.fn.piece l.left l.fn.asked.rests l.children.items l.places
+    × All (IsChild l.self.game l.self.position l.fn.piece) l.children.items
     × All (λ child. IsStanding l.self.known.items l.self.rows child.placement child.standing) l.children.items
 
 abbrev pub decreases-loop-placement : goal.decreases-loop-placement

@@ -11,4 +11,4 @@ returns c =
     let counts = c.counts_with.result in
     mark-with c.args.self.now.known.items c.args.piece c.args.left c.args.rest counts c.index_of.result
     (subst (λ (known : List Mark). IfSome c.index_of.result (λ index. HasMarkAt known index counts)) c.as_slice.ensures.value c.index_of.ensures)
-    c.counts_with.ensures
+    (record { size = c.counts_with.ensures.size; each = c.counts_with.ensures.each })

@@ -3,6 +3,9 @@ use Rattle.std.proofs.Common.{◌≡◌, ℕ, ◌==◌, true, bit_and, subst}
 use Rattle.std.specs.Prelude.{Option, IfSome}
 use Rattle.std.proofs.lemmas.Bool.{eqb-true, not-false}
 use Rattle.lane_board.specs.Field.{Field, difference}
+use Rattle.srs.specs.Rules.{table_of}
+use Rattle.well.specs.Well.{filled}
+use Rattle.moves.proofs.CallerLemmas.{place-free}
 use Rattle.hands.specs.HandSets.{has}
 use Rattle.prune.specs.Tiling.{Supply, Tiling}
 use Rattle.empty_cells.specs.Empties.{all_but, empty_cells}
@@ -11,15 +14,17 @@ use Rattle.percent.proofs.MarkLemmas.{bad-wanted, walled-bad}
 use Rattle.percent.proofs.marks.Marks.is_worth.Goals as goal
 
 pub returns : goal.returns
-returns c = λ no game rest here.
-    let marks = c.args.self.now in
-    let wanted = subst (λ (o : Option ℕ). IfSome o (λ wanted. (rest : ℕ) → has c.args.asked.now.rests rest ≡ true → IsWanted marks.known.items c.args.placement.now.piece c.args.left rest wanted)) c.in-Some.is c.requires.wanted in
-    bad-wanted game marks.position marks.known.items marks.rows marks.cells c.args.placement.now c.args.left rest c.in-Some.wanted c.args.standing marks.spread marks.are_true c.requires.free c.requires.below
-    (wanted rest here) c.requires.standing (eqb-true (bit_and c.args.standing c.in-Some.wanted) 0 (not-false (bit_and c.args.standing c.in-Some.wanted == 0) no))
-
-pub returns-in_default : goal.returns-in_default
-returns-in_default c = λ no game rest here.
+returns c = λ no rest here.
     let marks = c.args.self.now in
     let q = c.args.placement.now in
-    walled-bad game marks.position q c.args.left rest marks.rows (empty_cells marks.cells) marks.spread c.requires.free c.requires.below
+    let wanted = subst (λ (o : Option ℕ). IfSome o (λ wanted. (rest : ℕ) → has c.args.asked.now.rests rest ≡ true → IsWanted marks.known.items q.piece c.args.left rest wanted)) c.in-Some.is c.requires.wanted in
+    bad-wanted marks q c.args.left rest c.in-Some.wanted c.args.standing c.requires.place c.requires.below (c.requires.rests.each rest here) (wanted rest here) c.requires.standing
+    (eqb-true (bit_and c.args.standing c.in-Some.wanted) 0 (not-false (bit_and c.args.standing c.in-Some.wanted == 0) no))
+
+pub returns-in_default : goal.returns-in_default
+returns-in_default c = λ no rest here.
+    let marks = c.args.self.now in
+    let q = c.args.placement.now in
+    walled-bad marks.game marks.position q c.args.left rest marks.rows (empty_cells marks.cells) marks.spread
+    (place-free (table_of marks.game.rules) (filled marks.position.well) marks.game.drop_mode q c.requires.place) c.requires.below
     (subst (λ (E : Field). (supply : Supply) → Tiling (all_but (difference (empty_cells marks.cells) E)) 8 supply → ⊥) c.requires.taken (c.leaves_uneven_part.ensures (not-false c.leaves_uneven_part.result no)))

@@ -12,10 +12,10 @@ index-mark-requires c =
     omega (arith, within, size)
 
 pub returns-in-Ok : goal.returns-in-Ok
-returns-in-Ok c =
+returns-in-Ok c = λ rest at.
     let marks = c.args.self.now in
     let k = c.in_ok-index.ensures in
     let within = slice_get_within marks.known.items c.in_ok-index.index k.there.mark k.there.there in
-    mark-listed marks.position c.args.child.now c.args.left c.args.hand c.in_ok-index.index marks.known.items marks.rows marks.cells (empty_cells c.args.taken.now) c.index-mark.result.now _ marks.spread marks.are_true c.requires.child k
+    mark-listed marks c.args.child.now c.args.left rest c.args.hand c.in_ok-index.index (empty_cells c.args.taken.now) c.index-mark.result.now _ c.requires.child k
     (slice_get_read marks.known.items _ c.in_ok-index.index c.index-mark.result.now refl within c.index-mark.ensures)
-    c.requires.taken c.requires.counts c.in-Ok.ensures
+    c.requires.taken c.requires.counts c.in-Ok.ensures at

@@ -1,0 +1,241 @@
+-- A block that is put where its key belongs.
+use Rattle.std.proofs.Common.{ℕ, ◌≡◌, ◌≢◌, ◌+◌, ◌-◌, ◌<◌, ◌≤◌, suc, Bool, true, false, ◌||◌, ◌&&◌, ◌==◌, if◌then◌else◌, List, [], ◌∷◌, ◌++◌, length, get_or, set, take, drop, All, Result, Ok, Err, refl, sym, ap, subst, ◌∙◌, add-one, arith, inl, inr, rules}
+use Rattle.std.specs.List.{insert}
+use Rattle.std.specs.Result.{OnErr}
+use Rattle.std.proofs.lemmas.Bool.{cases_lt, and_right, or_cases}
+use Rattle.std.proofs.lemmas.List.{drop_more, get_or_read, map-set, map_push, set-get_or, set_split}
+use Rattle.std.proofs.lemmas.List.Edits.{get_or-insert_below, get_or-insert_at, get_or-insert_above, length-insert}
+use Rattle.std.proofs.lemmas.List.Elements.{All-append, All-cons, All-drop, All-push, All-set, All-take}
+use Rattle.lane_board.specs.Lanes.{has_bit}
+use Rattle.lane_board.proofs.CallerLemmas.{has_bit-zero, same_from_columns}
+use Rattle.hands.specs.declared.block.Block.{Block}
+use Rattle.hands.specs.BlockHands.{AreHands, AreInOrder, IsBlock, IsHandAt, IsRising, hand_at, in_block, keys_of}
+use Rattle.hands.specs.Blocks.{ending_of, have_parts}
+use Rattle.hands.proofs.HasLemmas.{rising-push}
+use Rattle.hands.proofs.OrderLemmas.{key-at, keys-length, passed-before, rises-at, rises-from}
+use Rattle.hands.proofs.PartLemmas.{has_part, parts-append, parts-cut, parts-first}
+
+-- no key from an index on is below this one
+pub record IsReached (blocks : List Block) (index key : ℕ) : Type 0 where
+  pub above : (k : ℕ) (d : Block) → index ≤ k → k < length blocks → key ≤ (get_or blocks k d).key
+  pub within : index < length blocks
+
+-- before the last block
+pub at-last : (blocks : List Block) (last key : ℕ) → 0 < length blocks → last ≡ length blocks - 1 → key < get_or (keys_of blocks) (length blocks - 1) 0 → IsReached blocks last key
+at-last blocks last key some last_is less = record {
+  above = λ k d from below.
+      let same : k ≡ length blocks - 1 = omega arith in
+      omega (arith, less, ap (λ n. get_or (keys_of blocks) n 0) same, key-at blocks k d below);
+  within = omega arith;
+}
+
+pub before-last : (blocks : List Block) (last key : ℕ) (test other : Block) → 0 < length blocks → last ≡ length blocks - 1 → test ≡ get_or blocks last test → key ≤ test.key
+    → other ≡ get_or blocks last other → (other.key ≡ key → ⊥) → key < get_or (keys_of blocks) (length blocks - 1) 0
+before-last blocks last key test other some last_is test_is least other_is differs =
+    let within : last < length blocks = omega arith in
+    let one : (get_or blocks last test).key ≡ test.key = ap (λ (b : Block). b.key) (sym test_is) in
+    let two : (get_or blocks last test).key ≡ other.key = ap (λ (b : Block). b.key) (sym (get_or_read blocks last other within other_is test)) in
+    let ne : other.key ≢ key = differs in
+    omega (arith, one, two, key-at blocks last test within, ap (λ n. get_or (keys_of blocks) n 0) last_is)
+
+pub is_block : (block : Block) → AreHands block → (block.endings ≡ 0 → ⊥) → IsBlock block
+is_block block hands some = record { hands = hands; some = some }
+
+-- behind the last block
+pub in_order-push : (blocks new : List Block) (block : Block) (done : Bool) → AreInOrder blocks → ((k : ℕ) (d : Block) → k < length blocks → (get_or blocks k d).key < block.key)
+    → new ≡ (if done then blocks ++ block ∷ [] else blocks) → AreInOrder new
+unfolding keys_of
+in_order-push blocks new block false up low is = subst AreInOrder (sym is) up
+in_order-push blocks new block true up low is = subst AreInOrder (sym is) (pushed blocks block up low)
+  where
+    pushed : (blocks : List Block) (block : Block) → AreInOrder blocks → ((k : ℕ) (d : Block) → k < length blocks → (get_or blocks k d).key < block.key) → AreInOrder (blocks ++ block ∷ [])
+    pushed blocks block up low =
+        rw (map_push (λ (b : Block). b.key) blocks block)
+        (rising-push (keys_of blocks) block.key up (λ k below.
+        let within : k < length blocks = omega (arith, below, keys-length blocks) in
+        let less = low k block within in
+        omega (arith, key-at blocks k block within)))
+
+pub each-push : (blocks new : List Block) (block : Block) (done : Bool) → All IsBlock blocks → IsBlock block → new ≡ (if done then blocks ++ block ∷ [] else blocks) → All IsBlock new
+each-push blocks new block false each is_one is = subst (All IsBlock) (sym is) each
+each-push blocks new block true each is_one is = subst (All IsBlock) (sym is) (All-push IsBlock blocks block each is_one)
+
+-- before a block
+rises-insert : (blocks : List Block) (i : ℕ) (x : Block) → AreInOrder blocks → i ≤ length blocks → ((k : ℕ) (d : Block) → k < i → (get_or blocks k d).key < x.key)
+    → ((k : ℕ) (d : Block) → i ≤ k → k < length blocks → x.key < (get_or blocks k d).key) → AreInOrder (insert blocks i x)
+rises-insert blocks i x up within low high = rises-from (insert blocks i x) x rises
+  where
+    size : length (insert blocks i x) ≡ length blocks + 1
+    size = length-insert blocks i x within
+
+    key-below : (k : ℕ) → k < i → (get_or (insert blocks i x) k x).key ≡ (get_or blocks k x).key
+    key-below k early = ap (λ (b : Block). b.key) (get_or-insert_below blocks i x x k early within)
+
+    key-here : (k : ℕ) → k ≡ i → (get_or (insert blocks i x) k x).key ≡ x.key
+    key-here k same = ap (λ n. (get_or (insert blocks i x) n x).key) same ∙ ap (λ (b : Block). b.key) (get_or-insert_at blocks i x x within)
+
+    key-above : (k : ℕ) → i < k → (get_or (insert blocks i x) k x).key ≡ (get_or blocks (k - 1) x).key
+    key-above k late =
+        let back : k - 1 + 1 ≡ k = omega arith in
+        ap (λ n. (get_or (insert blocks i x) n x).key) (sym back) ∙ ap (λ (b : Block). b.key) (get_or-insert_above blocks i x x (k - 1) (omega arith) within)
+
+    rises : (m n : ℕ) → m < n → n < length (insert blocks i x) → (get_or (insert blocks i x) m x).key < (get_or (insert blocks i x) n x).key
+    rises m n before below = elim (cases_lt n i) [
+      | inl early ↦ let step = rises-at blocks m n x x up before (omega (arith, within)) in omega (arith, key-below m (omega arith), key-below n early)
+      | inr late ↦ elim (cases_lt i n) [
+        | inr here ↦ let less = low m x (omega arith) in omega (arith, key-below m (omega arith), key-here n (omega arith))
+        | inl above ↦
+            let inside : n - 1 < length blocks = omega (arith, below, size) in
+            let more = high (n - 1) x (omega arith) inside in
+            elim (cases_lt m i) [
+              | inl early ↦ let less = low m x early in omega (arith, key-below m early, key-above n above)
+              | inr not_early ↦ elim (cases_lt i m) [
+                | inr here ↦ omega (arith, key-here m (omega arith), key-above n above)
+                | inl later ↦ let step = rises-at blocks (m - 1) (n - 1) x x up (omega arith) inside in omega (arith, key-above m later, key-above n above)
+              ]
+            ]
+      ]
+    ]
+
+pub in_order-insert : (blocks new : List Block) (i : ℕ) (x : Block) (done : Bool) → AreInOrder blocks → i ≤ length blocks → ((k : ℕ) (d : Block) → k < i → (get_or blocks k d).key < x.key)
+    → ((k : ℕ) (d : Block) → i ≤ k → k < length blocks → x.key < (get_or blocks k d).key) → new ≡ (if done then insert blocks i x else blocks) → AreInOrder new
+in_order-insert blocks new i x false up within low high is = subst AreInOrder (sym is) up
+in_order-insert blocks new i x true up within low high is = subst AreInOrder (sym is) (rises-insert blocks i x up within low high)
+
+pub each-insert : (blocks new : List Block) (i : ℕ) (x : Block) (done : Bool) → All IsBlock blocks → IsBlock x → new ≡ (if done then insert blocks i x else blocks) → All IsBlock new
+each-insert blocks new i x false each is_one is = subst (All IsBlock) (sym is) each
+each-insert blocks new i x true each is_one is =
+    subst (All IsBlock) (sym is)
+    (All-append IsBlock (take i blocks) (x ∷ drop i blocks) (All-take IsBlock i blocks each) (All-cons IsBlock x (drop i blocks) is_one (All-drop IsBlock i blocks each)))
+
+or_between : (a e b : Bool) → (a || (e || b)) ≡ ((a || b) || e)
+or_between a e b = search rules
+
+pub parts-insert : (blocks : List Block) (i : ℕ) (x : Block) (key ending : ℕ) → have_parts (insert blocks i x) key ending ≡ (have_parts blocks key ending || has_part x key ending)
+parts-insert blocks i x key ending =
+    parts-append (take i blocks) (x ∷ drop i blocks) key ending
+    ∙ ap (λ b. have_parts (take i blocks) key ending || b) (parts-first x (drop i blocks) key ending)
+    ∙ or_between (have_parts (take i blocks) key ending) (has_part x key ending) (have_parts (drop i blocks) key ending)
+    ∙ ap (λ b. b || has_part x key ending) (sym (parts-cut blocks i key ending))
+
+-- in a block with the same key
+pub in_order-set : (blocks : List Block) (i : ℕ) (x d : Block) → AreInOrder blocks → i < length blocks → x.key ≡ (get_or blocks i d).key → AreInOrder (set blocks i x)
+unfolding keys_of
+in_order-set blocks i x d up within same = subst IsRising (sym keys) up
+  where
+    keys : keys_of (set blocks i x) ≡ keys_of blocks
+    keys =
+        map-set (λ (b : Block). b.key) blocks i x
+        ∙ ap (set (keys_of blocks) i) (same ∙ sym (key-at blocks i d within))
+        ∙ set-get_or (keys_of blocks) i 0
+
+-- the block of both
+pub both-hands : (one other both : Block) → AreHands one → AreHands other → one.key ≡ other.key → both.key ≡ one.key
+    → ((k : ℕ) → has_bit both.endings k ≡ (has_bit one.endings k || has_bit other.endings k)) → AreHands both
+both-hands one other both first second same key_is bits = record {
+  each = λ ending has. elim (or_cases _ _ (sym (bits ending) ∙ has)) [
+    | inl in_one ↦ subst (λ key. IsHandAt key ending (hand_at key ending)) (sym key_is) (first.each ending in_one)
+    | inr in_other ↦ subst (λ key. IsHandAt key ending (hand_at key ending)) (sym same ∙ sym key_is) (second.each ending in_other)
+  ];
+}
+
+pub is_both : (one other both : Block) → IsBlock one → AreHands other → one.key ≡ other.key → both.key ≡ one.key
+    → ((k : ℕ) → has_bit both.endings k ≡ (has_bit one.endings k || has_bit other.endings k)) → IsBlock both
+is_both one other both is_one hands same key_is bits = record {
+  hands = both-hands one other both is_one.hands hands same key_is bits;
+  some = λ none. is_one.some (same_from_columns one.endings 0 (λ k. first_none _ _ (sym (bits k) ∙ ap (λ n. has_bit n k) none ∙ has_bit-zero k) ∙ sym (has_bit-zero k)));
+}
+  where
+    first_none : (a b : Bool) → (a || b) ≡ false → a ≡ false
+    first_none a b none = search rules
+
+or_within : (a q s t c : Bool) → (a || ((q && (s || t)) || c)) ≡ ((a || ((q && s) || c)) || (q && t))
+or_within true q s t c = refl
+or_within false false s t true = refl
+or_within false false s t false = refl
+or_within false true true t c = refl
+or_within false true false true true = refl
+or_within false true false true false = refl
+or_within false true false false true = refl
+or_within false true false false false = refl
+
+pub parts-set : (blocks : List Block) (i : ℕ) (d other both : Block) (key ending : ℕ) → i < length blocks → (get_or blocks i d).key ≡ other.key → both.key ≡ (get_or blocks i d).key
+    → ((k : ℕ) → has_bit both.endings k ≡ (has_bit (get_or blocks i d).endings k || has_bit other.endings k))
+    → have_parts (set blocks i both) key ending ≡ (have_parts blocks key ending || has_part other key ending)
+parts-set blocks i d other both key ending within same key_is bits =
+    let one = get_or blocks i d in
+    let front = have_parts (take i blocks) key ending in
+    let back = have_parts (drop (i + 1) blocks) key ending in
+    let old : have_parts blocks key ending ≡ (front || (has_part one key ending || back)) =
+    parts-cut blocks i key ending ∙ ap (λ l. front || have_parts l key ending) (drop_more blocks i d within) ∙ ap (λ b. front || b) (parts-first one (drop (i + 1) blocks) key ending) in
+    let new : have_parts (set blocks i both) key ending ≡ (front || (has_part both key ending || back)) =
+    ap (λ l. have_parts l key ending) (set_split blocks i both within)
+    ∙ parts-append (take i blocks) (both ∷ drop (suc i) blocks) key ending
+    ∙ ap (λ b. front || b) (parts-first both (drop (suc i) blocks) key ending)
+    ∙ ap (λ n. front || (has_part both key ending || have_parts (drop n blocks) key ending)) (sym (add-one i)) in
+    let both_is : has_part both key ending ≡ ((other.key == key) && (has_bit one.endings ending || has_bit other.endings ending)) =
+    (λ j. ((key_is ∙ same) j == key) && bits ending j) in
+    let one_is : has_part one key ending ≡ ((other.key == key) && has_bit one.endings ending) = (λ j. (same j == key) && has_bit one.endings ending) in
+    new ∙ ap (λ b. front || (b || back)) both_is
+    ∙ or_within front (other.key == key) (has_bit one.endings ending) (has_bit other.endings ending) back
+    ∙ ap (λ b. (front || (b || back)) || has_part other key ending) (sym one_is)
+    ∙ ap (λ b. b || has_part other key ending) (sym old)
+
+pub where-refused : {T E P : Type 0} (r : Result T E) → P → OnErr r P
+where-refused (Ok _) fact = tt
+where-refused (Err _) fact = fact
+
+-- a block at an index, and one with its key and the endings of both
+pub record Joins (blocks : List Block) (i : ℕ) (d other both : Block) : Type 0 where
+  pub within : i < length blocks
+  pub same : (get_or blocks i d).key ≡ other.key
+  pub key_is : both.key ≡ (get_or blocks i d).key
+  pub bits : (k : ℕ) → has_bit both.endings k ≡ (has_bit (get_or blocks i d).endings k || has_bit other.endings k)
+
+pub joins : (blocks : List Block) (i : ℕ) (d read test other : Block) (endings : ℕ) → i < length blocks → d ≡ get_or blocks i d → read ≡ get_or blocks i read → test ≡ get_or blocks i test
+    → test.key ≡ other.key → ((k : ℕ) → has_bit endings k ≡ (has_bit read.endings k || has_bit other.endings k))
+    → Joins blocks i d other (record { key = d.key; endings = endings })
+joins blocks i d read test other endings within d_is read_is test_is same bits = record {
+  within = within;
+  same = ap (λ (b : Block). b.key) (sym (get_or_read blocks i test within test_is d)) ∙ same;
+  key_is = ap (λ (b : Block). b.key) d_is;
+  bits = λ k. bits k ∙ ap (λ (b : Block). has_bit b.endings k || has_bit other.endings k) (get_or_read blocks i read within read_is d);
+}
+
+pub joined-order : (blocks : List Block) (i : ℕ) (d other both : Block) → AreInOrder blocks → Joins blocks i d other both → AreInOrder (set blocks i both)
+joined-order blocks i d other both up join = in_order-set blocks i both d up join.within join.key_is
+
+pub joined-each : (blocks : List Block) (i : ℕ) (d other both : Block) → All IsBlock blocks → AreHands other → Joins blocks i d other both → All IsBlock (set blocks i both)
+joined-each blocks i d other both each hands join =
+    All-set IsBlock blocks i both (is_both (get_or blocks i d) other both (each i d join.within) hands join.same join.key_is join.bits) each
+
+pub joined-parts : (blocks : List Block) (i : ℕ) (d other both : Block) (key ending : ℕ) → Joins blocks i d other both
+    → have_parts (set blocks i both) key ending ≡ (have_parts blocks key ending || has_part other key ending)
+joined-parts blocks i d other both key ending join = parts-set blocks i d other both key ending join.within join.same join.key_is join.bits
+
+-- the keys from an index on are above one that isn't there
+pub above-all : (blocks : List Block) (index key : ℕ) (test : Block) → AreInOrder blocks → IsReached blocks index key → test ≡ get_or blocks index test → (test.key ≡ key → ⊥)
+    → (k : ℕ) (d : Block) → index ≤ k → k < length blocks → key < (get_or blocks k d).key
+above-all blocks index key test up reached test_is other k d from below = elim (cases_lt index k) [
+  | inl later ↦ let step = rises-at blocks index k d d up later below in let le = reached.above index d (omega arith) (omega arith) in omega arith
+  | inr here ↦
+      let le = reached.above k d from below in
+      let same : k ≡ index = omega arith in
+      let at : get_or blocks k d ≡ test = ap (λ n. get_or blocks n d) same ∙ sym (get_or_read blocks index test reached.within test_is d) in
+      let key_is : (get_or blocks k d).key ≡ test.key = ap (λ (b : Block). b.key) at in
+      let ne : test.key ≢ key = other in
+      omega arith
+]
+
+-- the keys before an index are below one that the key before it is below
+pub low-before : (blocks : List Block) (index last key : ℕ) (test : Block) → AreInOrder blocks → 0 < index → index ≤ length blocks → last + 1 ≡ index → test ≡ get_or blocks last test → test.key < key
+    → (k : ℕ) (d : Block) → k < index → (get_or blocks k d).key < key
+low-before blocks index last key test up some within last_is test_is less k d early =
+    let same : last ≡ index - 1 = omega arith in
+    let at : test ≡ get_or blocks (index - 1) test = test_is ∙ ap (λ n. get_or blocks n test) same in
+    let at_key : test.key ≡ (get_or blocks (index - 1) test).key = ap (λ (b : Block). b.key) at in
+    (passed-before blocks index key test up some within (omega arith)).below k d early
+
+pub none-in : (block : Block) (hand : ℕ) → block.endings ≡ 0 → in_block block hand ≡ false
+unfolding in_block
+none-in block hand none = and_right _ _ (ap (λ n. has_bit n (ending_of hand)) none ∙ has_bit-zero (ending_of hand))

@@ -1,0 +1,67 @@
+-- A block that is put at the end, or left to be put where its key belongs.
+use Rattle.std.proofs.Common.{ℕ, ◌<◌, ◌-◌, ◌||◌, ap, ◌∙◌, length, get_or, arith}
+use Rattle.hands.specs.declared.block.Block.{Block}
+use Rattle.hands.specs.Blocks.{ending_of, have_parts, key_of}
+use Rattle.hands.specs.HandSets.{has}
+use Rattle.hands.proofs.AddSteps.{before-last, each-push, in_order-push, is_block, joined-each, joined-order, joined-parts, joins, low-before, none-in, where-refused}
+use Rattle.hands.proofs.BackLemmas.{or_false}
+use Rattle.hands.proofs.PartLemmas.{hands-push, parts-one}
+use Rattle.hands.proofs.hand_set.HandSet.add.Goals as goal
+use Rattle.hands.proofs.hand_set.HandSet.add.Goals.{then-count-eq0-via-then-count-eq0, then-count-eq0-via-else-count-eq0+then-index-block}
+
+pub returns-then-block-eq0-clause-added : goal.returns-then-block-eq0-clause-added
+returns-then-block-eq0-clause-added c = λ hand. or_false _ _ (none-in c.args.block hand c.if-block-eq0.true)
+
+pub invariant_of-self : goal.invariant_of-self
+invariant_of-self c =
+    let items = c.args.self.now.blocks.items in
+    let low : (k : ℕ) (d : Block) → k < length items → (get_or items k d).key < c.args.block.key =
+    λ k d below. elim c.then-count-eq0.branch [
+      | then-count-eq0-via-then-count-eq0 w ↦ absurd (omega arith)
+      | then-count-eq0-via-else-count-eq0+then-index-block w ↦
+          low-before items (length items) (c.len-count.result - 1) c.args.block.key w.index.result.now c.args.self.now.rises (omega arith) (omega arith) (omega arith) w.index.ensures w.if-index-block.true k d below
+    ] in
+    record {
+      rises = in_order-push items _ c.args.block _ c.args.self.now.rises low c.push.ensures.items;
+      each = each-push items _ c.args.block _ c.args.self.now.each (is_block c.args.block c.requires c.if-block-eq0.false) c.push.ensures.items;
+    }
+
+pub returns-in_err-push-clause-refused : goal.returns-in_err-push-clause-refused
+unfolding has
+returns-in_err-push-clause-refused c = where-refused c.from_residual.result (λ hand. ap (λ l. have_parts l (key_of hand) (ending_of hand)) c.in_err-push.ensures.items)
+
+pub returns-then-count-eq0-clause-added : goal.returns-then-count-eq0-clause-added
+unfolding has
+returns-then-count-eq0-clause-added c = λ hand.
+    ap (λ l. have_parts l (key_of hand) (ending_of hand)) c.in_ok-push.ensures.items ∙ hands-push c.args.self.now.blocks.items c.args.block hand
+
+pub invariant_of-self-then-index-block-2 : goal.invariant_of-self-then-index-block-2
+invariant_of-self-then-index-block-2 c =
+    let items = c.args.self.now.blocks.items in
+    let last = c.len-count.result - 1 in
+    let within : last < length items = omega arith in
+    let join = joins items last c.index_mut.result.now c.index-then-index-block-2.result.now c.index-2.result.now c.args.block c.bits_of_both.result within
+    c.index_mut.ensures.value c.index-then-index-block-2.ensures c.index-2.ensures c.if-index-block-2.true c.bits_of_both.ensures in
+    record {
+      rises = joined-order items last c.index_mut.result.now c.args.block _ c.args.self.now.rises join;
+      each = joined-each items last c.index_mut.result.now c.args.block _ c.args.self.now.each c.requires join;
+    }
+
+pub returns-then-index-block-2-clause-added : goal.returns-then-index-block-2-clause-added
+unfolding has
+returns-then-index-block-2-clause-added c = λ hand.
+    let items = c.args.self.now.blocks.items in
+    let last = c.len-count.result - 1 in
+    let within : last < length items = omega arith in
+    let join = joins items last c.index_mut.result.now c.index-then-index-block-2.result.now c.index-2.result.now c.args.block c.bits_of_both.result within
+    c.index_mut.ensures.value c.index-then-index-block-2.ensures c.index-2.ensures c.if-index-block-2.true c.bits_of_both.ensures in
+    joined-parts items last c.index_mut.result.now c.args.block _ (key_of hand) (ending_of hand) join
+    ∙ ap (λ b. have_parts items (key_of hand) (ending_of hand) || b) (parts-one c.args.block hand)
+
+pub insert_block-requires-clause-block : goal.insert_block-requires-clause-block
+insert_block-requires-clause-block c = is_block c.args.block c.requires c.if-block-eq0.false
+
+pub insert_block-requires-clause-before : goal.insert_block-requires-clause-before
+insert_block-requires-clause-before c =
+    before-last c.args.self.now.blocks.items (c.len-count.result - 1) c.args.block.key c.index.result.now c.index-2.result.now (omega arith) (omega arith) c.index.ensures c.if-index-block.false c.index-2.ensures
+    c.if-index-block-2.false

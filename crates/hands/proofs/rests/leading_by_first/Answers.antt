@@ -1,0 +1,19 @@
+use Rattle.std.proofs.Common.{◌/◌, ◌∙◌, ap, arith}
+use Rattle.hands.specs.Blocks.{have_parts}
+use Rattle.hands.proofs.LeadingSteps.{AreAt, first-longer, first-none, first-pairs}
+use Rattle.hands.proofs.rests.leading_by_first.Goals as goal
+
+pub returns-then-key-lt8 : goal.returns-then-key-lt8
+returns-then-key-lt8 c = λ hand is.
+    let at : AreAt c.args.rests.now 1 c.endings_at.result =
+    record { bits = λ ending. c.endings_at.ensures ending ∙ ap (λ l. have_parts l 1 ending) c.as_slice-blocks.ensures.value } in
+    first-pairs c.args.rests.now c.args.code c.endings_at.result c.pairs_with.result hand at (omega (arith, is, c.if-key-lt8.true)) c.pairs_with.ensures
+
+pub returns-then-key-code : goal.returns-then-key-code
+returns-then-key-code c = λ hand is. first-none c.args.rests.now c.args.code c.args.key hand is c.if-key-lt8.false c.if-key-code.true
+
+pub returns : goal.returns
+returns c = λ hand is.
+    let at : AreAt c.args.rests.now (c.args.key / 8) c.endings_at-2.result =
+    record { bits = λ ending. c.endings_at-2.ensures ending ∙ ap (λ l. have_parts l (c.args.key / 8) ending) c.as_slice-blocks.ensures.value } in
+    first-longer c.args.rests.now c.args.code c.args.key c.endings_at-2.result hand at is c.if-key-lt8.false c.if-key-code.false

@@ -1,5 +1,0 @@
-use Rattle.percent.proofs.AllowingLemmas.{FirstAllowed}
-use Rattle.percent.proofs.allowing.allow_first.Given as goal
-
-abbrev pub invariant-loop-count : goal.invariant-loop-count
-invariant-loop-count l = FirstAllowed l.weights l.hand l.fn.allowed l.allowed l.bit l.count

@@ -1,5 +1,0 @@
-use Rattle.percent.proofs.AllowingLemmas.{Summing}
-use Rattle.percent.proofs.allowing.first_weights.Given as goal
-
-abbrev pub invariant-loop : goal.invariant-loop
-invariant-loop l = Summing l.weights l.count l.hand l.counter l.sum l.rest

@@ -1,5 +1,0 @@
-use Rattle.percent.specs.Building.{AreNoted}
-use Rattle.percent.proofs.allowing.sums_of.Given as goal
-
-abbrev pub invariant-loop-index : goal.invariant-loop-index
-invariant-loop-index l = AreNoted l.hold l.left l.hands l.weights l.allowed l.open l.index

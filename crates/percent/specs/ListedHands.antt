@@ -1,0 +1,37 @@
+-- Marks that list all tilings by which some hands are built. Those that serve no such hand they need not list.
+use Rattle.std.specs.Prelude.{◌≡◌, ℕ, suc, ◌==◌, Bool, true, All}
+use Rattle.lane_board.specs.Field.{Field}
+use Rattle.srs.specs.declared.piece.Piece.{Piece}
+use Rattle.srs.specs.Piece.{piece_code}
+use Rattle.hold_queue.specs.declared.hold.Hold.{Hold}
+use Rattle.hands.specs.Hands.{takes}
+use Rattle.empty_cells.specs.Empties.{empty_cells}
+use Rattle.tiled_pieces.specs.TilingLists.{HasParts}
+use Rattle.percent.specs.declared.marks.Mark.{Mark}
+use Rattle.percent.specs.declared.marks.Marks.{Marks}
+use Rattle.percent.specs.BuiltHands.{IsBuiltBy}
+use Rattle.percent.specs.Marks.{HasCounts}
+
+-- If a mark is of the pieces of a hand, each tiling by which the hand is built is listed. This too can't be refuted.
+pub record ListsHand (E : Field) (drops : Bool) (hold : Hold) (left hand : ℕ) (mark : Mark) : Type 0 where
+  pub each : HasCounts mark.counts left hand → (built : IsBuiltBy E drops hold left hand)
+      → (HasParts mark.tilings.tilings.items built.tiling.parts → ⊥) → ⊥
+
+-- so it is for each of some marks
+abbrev pub AllListHand : Marks → ℕ → ℕ → Type 0
+AllListHand marks left hand =
+    All (ListsHand (empty_cells marks.cells) marks.drops marks.game.hold left hand) marks.known.items
+
+-- and for each of these hands, with so many placements to come
+pub record AreMarksOf (marks : Marks) (left : ℕ) (hands : ℕ → Bool) : Type 0 where
+  pub each : (hand : ℕ) → hands hand ≡ true → AllListHand marks left hand
+
+-- a rest is what is left of such a hand when a piece is taken
+pub record IsRestAt (marks : Marks) (piece : Piece) (left rest : ℕ) : Type 0 where
+  pub hand : ℕ
+  pub taken : takes marks.game.hold (piece_code piece) (λ other. other == rest) hand ≡ true
+  pub lists : AllListHand marks (suc left) hand
+
+-- so is each of these rests
+pub record AreRestsAt (marks : Marks) (piece : Piece) (left : ℕ) (rests : ℕ → Bool) : Type 0 where
+  pub each : (rest : ℕ) → rests rest ≡ true → IsRestAt marks piece left rest

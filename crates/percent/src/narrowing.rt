@@ -1,0 +1,157 @@
+// Leaving out hands that no listed tiling serves, and tilings that serve no hand.
+ghost use Rattle.std.specs.Prelude.{◌≡◌, ◌≤◌, ℕ, IfOk, Some, false, true, length, slice_get, slice_index_or};
+ghost use Rattle.std.specs.List.{Contains};
+ghost use Rattle.tiled_pieces.specs.declared.listed.ListedTiling.{ListedTiling};
+ghost use Rattle.percent.specs.Building.{AreCountsOf};
+
+use crate::fitting::{Counts, counts_of};
+use crate::marks::Marks;
+use hands::HandSet;
+use hold_queue::Hold;
+use pc_outside::NoMemory;
+use std::alloc::Global;
+use tiled_pieces::TilingList;
+
+/// The counts of each hand.
+fn counts_of_each(alloc: Global, left: u8, hands: &[u64]) -> Result<Vec<Counts>, NoMemory>
+    requires { left ≤ 20 }
+    ensures { IfOk result (λ counts. AreCountsOf left hands.now counts.items) }
+{
+    let mut counts = Vec::with_capacity(alloc, hands.len())?;
+    for hand in hands {
+        counts.push(counts_of(*hand, left + 1))?;
+    }
+    Ok(counts)
+}
+
+/// How many tilings are used.
+fn count_used(used: &[bool]) -> usize {
+    let mut count = 0usize;
+    for is_used in used {
+        if *is_used {
+            count = count.saturating_add(1);
+        }
+    }
+    count
+}
+
+/// The tilings of a list that are used, with room for so many.
+fn used_among(
+    alloc: Global,
+    list: &TilingList,
+    used: &[bool],
+    room: usize,
+) -> Result<TilingList, NoMemory>
+    requires { length used.now ≡ length list.now.tilings.items }
+    ensures { IfOk result (λ kept. (j : ℕ) (tiling : ListedTiling) → slice_get list.now.tilings.items j ≡ Some tiling
+        → slice_index_or used.now j false ≡ true → Contains kept.tilings.items tiling) }
+{
+    let mut tilings = Vec::with_capacity(alloc, room)?;
+    for index in 0..used.len() {
+        if used[index] {
+            tilings.push(list.tilings[index])?;
+        }
+    }
+    Ok(TilingList { tilings })
+}
+
+impl Marks {
+    ghost use Rattle.std.specs.Prelude.{◌<◌, ◌&&◌, OnOk, vec_len};
+    ghost use Rattle.well.specs.Well.{filled};
+    ghost use Rattle.hands.specs.HandSets.{has};
+    ghost use Rattle.percent.specs.Building.{AllListHands, AreNarrowed, AreTested};
+    ghost use Rattle.percent.specs.GoodHands.{is_good};
+    ghost use Rattle.percent.specs.ListedHands.{AreMarksOf};
+
+    /// Notes which hands with the pieces of one mark are bad, and leaves out its tilings that serve none of them. With
+    /// hard drops, where that costs more than it spares, all stay. So they do if there is not enough memory.
+    fn narrow_mark(
+        &mut self,
+        alloc: Global,
+        index: usize,
+        left: u8,
+        hands: &[u64],
+        counts: &[Counts],
+        may: &mut Vec<bool>,
+    ) -> Result<(), NoMemory>
+        requires left { left ≤ 20 }
+        requires index { index < vec_len self.old.known }
+        requires lists { AllListHands self.old left hands.now }
+        requires counts { AreCountsOf left hands.now counts.now }
+        requires tested { AreTested self.old.game self.old.position left hands.now may.old.items }
+        ensures narrowed { OnOk result (AreNarrowed self.old self.new left hands.now) }
+        ensures tested { OnOk result (AreTested self.old.game self.old.position left hands.now may.new.items) }
+    {
+        let mark = &self.known[index];
+        let mut used = vec![in alloc; self.drops; mark.tilings.tilings.len()]?;
+        self.test_mark(mark, left, hands, counts, may, &mut used);
+        let count = count_used(used.as_slice());
+        if count == used.len() {
+            return Ok(());
+        }
+        let kept = used_among(alloc, &mark.tilings, used.as_slice(), count);
+        if let Ok(tilings) = kept {
+            self.known[index].tilings = tilings;
+        }
+        Ok(())
+    }
+
+    /// Which hands may be good. The others no listed tiling of their mark serves. Tilings that serve no hand are left
+    /// out.
+    fn narrow(&mut self, alloc: Global, left: u8, hands: &[u64]) -> Result<Vec<bool>, NoMemory>
+        requires left { left ≤ 20 }
+        requires lists { AllListHands self.old left hands.now }
+        ensures narrowed { OnOk result (AreNarrowed self.old self.new left hands.now) }
+        ensures tested { IfOk result (λ may. AreTested self.old.game self.old.position left hands.now may.items) }
+    {
+        let counts = counts_of_each(alloc, left, hands)?;
+        let mut may = vec![in alloc; true; hands.len()]?;
+        for index in 0..self.known.len() {
+            self.narrow_mark(alloc, index, left, hands, counts.as_slice(), &mut may)?;
+        }
+        Ok(may)
+    }
+
+    /// Whether it pays to ask which hands a listed tiling may serve, with `left` placements to come. With fewer or more
+    /// of them the test costs more than what it spares.
+    pub fn asks_orders(&self, left: u8) -> bool {
+        if self.is_empty() {
+            return false;
+        }
+        match (self.drops, self.game.hold) {
+            (true, _) => (4..=8).contains(&left),
+            (false, Hold::Avoided) => left == 7,
+            (false, Hold::Allowed) => false,
+        }
+    }
+
+    /// Those of the hands that a listed tiling may serve, with `left` placements to come. The others are not good.
+    /// Tilings that serve none of the hands are left out.
+    pub fn buildable(
+        &mut self,
+        alloc: Global,
+        left: u8,
+        hands: &HandSet,
+    ) -> Result<HandSet, NoMemory>
+        requires left { left ≤ 20 }
+        requires lists { AreMarksOf self.old left (has hands.now) }
+        ensures game { OnOk result (self.new.game ≡ self.old.game) }
+        ensures position { OnOk result (self.new.position ≡ self.old.position) }
+        ensures lists { IfOk result (λ likely. AreMarksOf self.new left (has likely)) }
+        ensures good { IfOk result (λ likely. (hand : ℕ) → (has likely hand
+            && is_good self.old.game (filled self.old.position.well) self.old.position.rows left hand)
+            ≡ (has hands.now hand
+            && is_good self.old.game (filled self.old.position.well) self.old.position.rows left hand)) }
+    {
+        let all = hands.numbers(alloc)?;
+        let numbers = all.as_slice();
+        let may = self.narrow(alloc, left, numbers)?;
+        let mut likely = HandSet::with_room_of(alloc, hands)?;
+        for index in 0..numbers.len() {
+            if may[index] {
+                likely.insert(numbers[index])?;
+            }
+        }
+        Ok(likely)
+    }
+}
