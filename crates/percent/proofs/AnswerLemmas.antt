@@ -18,7 +18,7 @@ use Rattle.hands.proofs.CallerLemmas.{has-push}
 use Rattle.problem.specs.declared.problem.Problem.{Problem}
 use Rattle.problem.specs.Problem.{IsFit, empties_of, needed_of}
 use Rattle.hands.specs.Hands.{hand_of}
-use Rattle.percent.specs.GoodHands.{AreAnswers, game_of, hand_at, HasGoodHands, HasHandsBefore, is_good, is_good_queue}
+use Rattle.percent.specs.GoodHands.{AreAnswers, game_of, hand_at, HasGoodHands, HasHandsBefore, HasHandsBetween, is_good, is_good_queue}
 use Rattle.percent.proofs.GoodLemmas.{good-decides, uneven-none}
 
 -- the hand of a queue that was read
@@ -27,14 +27,27 @@ pub hand-read : (problem : Problem) (number : ℕ) (queue : List Piece) → slic
 unfolding hand_at
 hand-read problem number queue read = search (rules, get_or_from_slice_get)
 
-pub hands-none : (problem : Problem) (has_hand : ℕ → Bool) → HasHandsBefore problem has_hand 0
-hands-none problem has_hand = record { each = λ k below. absurd (omega arith) }
+pub hands-none : (problem : Problem) (has_hand : ℕ → Bool) (first : ℕ) → HasHandsBetween problem has_hand first first
+hands-none problem has_hand first = record { each = λ k from below. absurd (omega arith) }
 
-pub hands-more : (problem : Problem) (hands : List ℕ) (number hand : ℕ) → hand ≡ hand_at problem number → HasHandsBefore problem (has_number hands) number → HasHandsBefore problem (has_number (hands ++ hand ∷ [])) (number + 1)
-hands-more problem hands number hand is state = search (rules, has-push, cases_lt, or_left, nat_tests, or_right)
+pub hands-more : (problem : Problem) (hands : List ℕ) (first number hand : ℕ) → hand ≡ hand_at problem number → HasHandsBetween problem (has_number hands) first number
+    → HasHandsBetween problem (has_number (hands ++ hand ∷ [])) first (number + 1)
+hands-more problem hands first number hand is state = search (rules, has-push, cases_lt, or_left, nat_tests, or_right)
 
-pub hands-same : (problem : Problem) (has_hand has_other : ℕ → Bool) (number : ℕ) → ((hand : ℕ) → has_other hand ≡ has_hand hand) → HasHandsBefore problem has_hand number → HasHandsBefore problem has_other number
-hands-same problem has_hand has_other number same state = record { each = λ k below. same (hand_at problem k) ∙ state.each k below }
+pub hands-same : (problem : Problem) (has_hand has_other : ℕ → Bool) (first end last : ℕ) → end ≤ last → ((hand : ℕ) → has_other hand ≡ has_hand hand)
+    → HasHandsBetween problem has_hand first last → HasHandsBetween problem has_other first end
+hands-same problem has_hand has_other first end last up_to same state =
+    record { each = λ k from below. same (hand_at problem k) ∙ state.each k from (omega (arith, up_to, below)) }
+
+-- those before one number, and those from there on
+pub hands-merged : (problem : Problem) (has_hand has_more has_all : ℕ → Bool) (first end : ℕ) → ((hand : ℕ) → has_all hand ≡ (has_hand hand || has_more hand))
+    → HasHandsBefore problem has_hand first → HasHandsBetween problem has_more first end → HasHandsBefore problem has_all end
+hands-merged problem has_hand has_more has_all first end merged before more = record {
+  each = λ k from below. merged (hand_at problem k) ∙ elim (cases_lt k first) [
+    | inl lower ↦ or_left (has_hand (hand_at problem k)) (has_more (hand_at problem k)) (before.each k from lower)
+    | inr higher ↦ or_right (has_hand (hand_at problem k)) (has_more (hand_at problem k)) (more.each k higher below)
+  ];
+}
 
 -- the good ones of all hands are those of good queues
 pub good-hands : (problem : Problem) (hands good : HandSet) → HasHandsBefore problem (has hands) (length (queues (elements_of problem.pattern)))
@@ -118,7 +131,7 @@ uneven-answer problem hands fit uneven hand = search (rules, and_right, uneven-n
 pub whole-hands : (problem : Problem) (hands good rest : HandSet) (number : ℕ) → ((hand : ℕ) → has rest hand ≡ (has hands hand && not (has good hand)))
     → ((hand : ℕ) → has rest hand ≡ false) → HasHandsBefore problem (has hands) number → HasHandsBefore problem (has good) number
 whole-hands problem hands good rest number rest_is none state = record {
-  each = λ k within. present (has hands (hand_at problem k)) (has good (hand_at problem k)) (state.each k within) (sym (rest_is (hand_at problem k)) ∙ none (hand_at problem k));
+  each = λ k from within. present (has hands (hand_at problem k)) (has good (hand_at problem k)) (state.each k from within) (sym (rest_is (hand_at problem k)) ∙ none (hand_at problem k));
 }
   where
     present : (a b : Bool) → a ≡ true → (a && not b) ≡ false → b ≡ true

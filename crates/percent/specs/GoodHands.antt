@@ -1,5 +1,5 @@
 -- Good hands, piece by piece: whether some way to take a piece and place it leaves a good hand.
-use Rattle.std.specs.Prelude.{◌≡◌, ℕ, zero, suc, ◌-◌, ◌<◌, Bool, true, false, ◌&&◌, ◌==◌, List, [], filter, length, slice_index_or}
+use Rattle.std.specs.Prelude.{◌≡◌, ℕ, zero, suc, ◌-◌, ◌<◌, ◌≤◌, Bool, true, false, ◌&&◌, ◌==◌, List, [], filter, length, slice_index_or}
 use Rattle.std.specs.List.{list_any}
 use Rattle.lane_board.specs.Field.{Field}
 use Rattle.srs.specs.declared.piece.Piece.{Piece}
@@ -59,9 +59,13 @@ hand_at problem number =
     hand_of problem.hold problem.held (needed_of problem)
     (slice_index_or (queues (elements_of problem.pattern)) number [])
 
+-- a test passes for the hand of each queue from one number on, before another one
+pub record HasHandsBetween (problem : Problem) (has_hand : ℕ → Bool) (first end : ℕ) : Type 0 where
+  pub each : (k : ℕ) → first ≤ k → k < end → has_hand (hand_at problem k) ≡ true
+
 -- a test passes for the hand of each queue before this number
-pub record HasHandsBefore (problem : Problem) (has_hand : ℕ → Bool) (number : ℕ) : Type 0 where
-  pub each : (k : ℕ) → k < number → has_hand (hand_at problem k) ≡ true
+abbrev pub HasHandsBefore : Problem → (ℕ → Bool) → ℕ → Type 0
+HasHandsBefore problem has_hand number = HasHandsBetween problem has_hand 0 number
 
 -- the hands of good queues are those among these
 pub record HasGoodHands (problem : Problem) (hands : HandSet) : Type 0 where

@@ -4,7 +4,7 @@ ghost use Rattle.queue_pattern.specs.Pattern.{elements_of};
 ghost use Rattle.queue_pattern.specs.Queues.{queues};
 ghost use Rattle.hands.specs.HandSets.{has};
 ghost use Rattle.problem.specs.Problem.{IsFit};
-ghost use Rattle.percent.specs.GoodHands.{AreAnswers, HasGoodHands, HasHandsBefore, is_good_queue};
+ghost use Rattle.percent.specs.GoodHands.{AreAnswers, HasGoodHands, HasHandsBefore, HasHandsBetween, is_good_queue};
 
 use crate::start::{good_hands, hand};
 use hands::{HandSet, Starts};
@@ -14,6 +14,27 @@ use reach::Steps;
 use std::alloc::Global;
 use std::sync::ledger::Ledger;
 
+/// How many hands are gathered before a set has them.
+const GATHERED: u32 = 65_536;
+
+/// The hands of the queues from one number on, before another one.
+fn hands_between(
+    alloc: Global,
+    problem: &Problem,
+    first: u32,
+    end: u32,
+) -> Result<HandSet, NoMemory>
+    requires fit { IsFit problem.now }
+    requires within { end ≤ length (queues (elements_of problem.now.pattern)) }
+    ensures { IfOk result (λ hands. HasHandsBetween problem.now (has hands) first end) }
+{
+    let mut numbers = Vec::with_capacity(alloc, end.saturating_sub(first) as usize)?;
+    for number in first..end {
+        numbers.push(hand(problem, number))?;
+    }
+    HandSet::of(alloc, numbers.as_slice())
+}
+
 /// The hands of all queues, each once.
 fn hands_of(alloc: Global, problem: &Problem) -> Result<HandSet, NoMemory>
     requires { IsFit problem.now }
@@ -21,11 +42,15 @@ fn hands_of(alloc: Global, problem: &Problem) -> Result<HandSet, NoMemory>
         HasHandsBefore problem.now (has hands) (length (queues (elements_of problem.now.pattern)))) }
 {
     let count = problem.pattern.count();
-    let mut hands = Vec::with_capacity(alloc, count as usize)?;
-    for number in 0..count {
-        hands.push(hand(problem, number))?;
+    let mut hands = HandSet::none(alloc);
+    let mut first = 0;
+    while first < count {
+        let end = count.min(first.saturating_add(GATHERED));
+        let more = hands_between(alloc, problem, first, end)?;
+        hands = hands.merged(alloc, &more)?;
+        first = end;
     }
-    HandSet::of(alloc, hands.as_slice())
+    Ok(hands)
 }
 
 /// That each queue is good, where the hand of each is among good ones.

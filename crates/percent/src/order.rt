@@ -4,23 +4,31 @@ ghost use Rattle.std.specs.Prelude.{◌≤◌};
 use crate::position::Child;
 use well::Well;
 
+/// With more empty cells than this, the sides of the field don't count.
+const FEW_EMPTIES: u8 = 36;
+
 /// How rough a well is below row `rows`: how often neighbouring cells of a row differ, with both sides of the field
-/// counted as filled, plus four for each empty cell right below a filled one. Nothing relies on it except which position
-/// is tried first.
+/// counted as filled, plus four for each empty cell right below a filled one. With many empty cells the sides don't
+/// count, and an empty cell below a filled one counts eight. Nothing relies on it except which position is tried first.
 pub fn roughness(well: &Well, rows: u8) -> u32
     requires { rows ≤ 8 }
 {
+    let (neighbours, weight) = if well.empties_below(rows) > FEW_EMPTIES {
+        (0x3fe, 8)
+    } else {
+        (0x7ff, 4)
+    };
     let board = well.board();
     let mut above = 0;
     let mut sum = 0u32;
     for y in (0..rows).rev() {
         let row = board.row(y);
         let with_sides = row << 1 | 0x801;
-        let changes = ((with_sides ^ with_sides >> 1) & 0x7ff).count_ones();
+        let changes = ((with_sides ^ with_sides >> 1) & neighbours).count_ones();
         let covered = (above & !row).count_ones();
         sum = sum
             .wrapping_add(changes)
-            .wrapping_add(covered.wrapping_mul(4));
+            .wrapping_add(covered.wrapping_mul(weight));
         above = row;
     }
     sum

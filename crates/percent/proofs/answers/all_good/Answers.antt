@@ -14,7 +14,7 @@ loop-number-preserved c =
     rw c.in_ok-push.ensures.items
     (judge-more problem c.args.hands.now c.loop-number.answers.items number (hand_at problem number) true c.requires.exact
     (omega (arith, c.loop-number-test.true, c.count-count.ensures.number)) refl
-    (sym (c.requires.each.each number (omega (arith, c.loop-number-test.true, c.count-count.ensures.number)))) c.loop-number.invariant)
+    (sym (c.requires.each.each number (omega arith) (omega (arith, c.loop-number-test.true, c.count-count.ensures.number)))) c.loop-number.invariant)
 
 pub returns : goal.returns
 returns c = subst (AreAnswers c.args.problem.now c.loop-number.answers.items) (omega (arith, c.loop-number-test.false, c.loop-number.auto.number-end, c.count-count.ensures.number)) c.loop-number.invariant

@@ -1,6 +1,10 @@
-use Rattle.hands.specs.Numbers.{has_number}
+use Rattle.std.specs.Prelude.{◌-◌}
+use Rattle.hands.specs.HandSets.{has}
 use Rattle.percent.specs.GoodHands.{HasHandsBefore}
 use Rattle.percent.proofs.answers.hands_of.Given as goal
 
-abbrev pub invariant-loop-number : goal.invariant-loop-number
-invariant-loop-number l = HasHandsBefore l.problem (has_number l.hands.items) l.number
+abbrev pub decreases-loop-first : goal.decreases-loop-first
+decreases-loop-first l = l.count - l.first
+
+abbrev pub invariant-loop-first : goal.invariant-loop-first
+invariant-loop-first l = HasHandsBefore l.problem (has l.hands) l.first
