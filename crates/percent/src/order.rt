@@ -8,7 +8,7 @@ use well::Well;
 const FEW_EMPTIES: u8 = 36;
 
 /// How rough a well is below row `rows`: how often neighbouring cells of a row differ, with both sides of the field
-/// counted as filled, plus four for each empty cell right below a filled one. With many empty cells the sides don't
+/// counted as filled, plus three for each empty cell right below a filled one. With many empty cells the sides don't
 /// count, and an empty cell below a filled one counts eight. Nothing relies on it except which position is tried first.
 pub fn roughness(well: &Well, rows: u8) -> u32
     requires { rows ≤ 8 }
@@ -16,7 +16,7 @@ pub fn roughness(well: &Well, rows: u8) -> u32
     let (neighbours, weight) = if well.empties_below(rows) > FEW_EMPTIES {
         (0x3fe, 8)
     } else {
-        (0x7ff, 4)
+        (0x7ff, 3)
     };
     let board = well.board();
     let mut above = 0;
