@@ -2,24 +2,18 @@
 use Rattle.std.proofs.Common.{◌≡◌, ℕ, suc, ◌+◌, ◌-◌, ◌*◌, ◌/◌, ◌%◌, ◌^◌, ◌<◌, ◌≤◌, true, ◌||◌, bit_or, List, length, get_or, refl, sym, ap, subst, ◌∙◌, inl, inr, arith}
 use Rattle.std.proofs.Common.{set as list_set}
 use Rattle.std.proofs.Math.Bool.{or-true, true-or}
-use Rattle.std.proofs.lemmas.Bool.{both_ways, cases_eq, cases_lt, or_parts}
+use Rattle.std.proofs.lemmas.Bool.{both_ways, cases_eq, cases_lt, eq-eqb, or_parts}
 use Rattle.std.proofs.lemmas.List.{get_or-set_other}
 use Rattle.std.proofs.lemmas.Grind.{get_or-set_at}
 use Rattle.lane_board.specs.Lanes.{has_bit}
-use Rattle.lane_board.proofs.CallerLemmas.{has_bit-low, has_bit-or, has_bit-shifted_high}
+use Rattle.lane_board.proofs.CallerLemmas.{has_bit-or}
 use Rattle.hold_queue.specs.declared.hold.Hold.{Hold}
 use Rattle.hold_queue.specs.declared.hold.Hold.TheVariants.{Allowed, Avoided}
 use Rattle.hands.specs.Weights.{AllowsTaken, AreNoted, KeepsBits, code_at, first_weights}
+use Rattle.hands.proofs.PieceBits.{has_bit-one}
 use Rattle.hands.proofs.WeightLemmas.{allows-but-one, allows-first}
 
-pub own_bit : (k : ℕ) → k < 64 → has_bit (1 * 2 ^ k % 2 ^ 64) k ≡ true
-unfolding has_bit
-own_bit k low = has_bit-low (1 * 2 ^ k) 64 k low ∙ has_bit-shifted_high 1 k k (omega arith) ∙ ap (has_bit 1) {x = k - k} {y = 0} (omega arith) ∙ refl
-
 -- ---- bits that are kept
-
-pub keeps-itself : (allowed : List ℕ) → KeepsBits allowed allowed
-keeps-itself allowed = record { each = λ sum bit there. there }
 
 pub keeps-on : (old now next : List ℕ) → KeepsBits old now → KeepsBits now next → KeepsBits old next
 keeps-on old now next first second = record { each = λ sum bit there. second.each sum bit (first.each sum bit there) }
@@ -41,7 +35,7 @@ keeps-set allowed sum n within = record {
 pub bit-set : (allowed : List ℕ) (sum bit : ℕ) → sum < length allowed → bit < 64 → has_bit (get_or (list_set allowed sum (bit_or (get_or allowed sum 0) (1 * 2 ^ bit % 2 ^ 64))) sum 0) bit ≡ true
 bit-set allowed sum bit within low =
     ap (λ m. has_bit m bit) (get_or-set_at allowed sum sum (bit_or (get_or allowed sum 0) (1 * 2 ^ bit % 2 ^ 64)) 0 refl within)
-    ∙ has_bit-or (get_or allowed sum 0) (1 * 2 ^ bit % 2 ^ 64) bit ∙ ap (λ b. has_bit (get_or allowed sum 0) bit || b) (own_bit bit low) ∙ or-true (has_bit (get_or allowed sum 0) bit)
+    ∙ has_bit-or (get_or allowed sum 0) (1 * 2 ^ bit % 2 ^ 64) bit ∙ ap (λ b. has_bit (get_or allowed sum 0) bit || b) (has_bit-one bit bit low ∙ eq-eqb bit bit refl) ∙ or-true (has_bit (get_or allowed sum 0) bit)
 
 -- ---- the sum of the first weights
 
@@ -78,9 +72,6 @@ pub record FirstAllowed (weights : List ℕ) (hand : ℕ) (old allowed : List �
   pub kept : KeepsBits old allowed
   pub set_at : (count : ℕ) → 0 < count → count ≤ i → has_bit (get_or allowed (first_weights weights count hand) 0) bit ≡ true
 
-pub first-starts : (weights : List ℕ) (hand : ℕ) (allowed : List ℕ) (bit : ℕ) → FirstAllowed weights hand allowed allowed bit 0
-first-starts weights hand allowed bit = record { kept = keeps-itself allowed; set_at = λ count some few. absurd (omega arith) }
-
 pub first-more : (weights : List ℕ) (hand : ℕ) (old allowed next : List ℕ) (bit i sum : ℕ) → sum ≡ first_weights weights (i + 1) hand → KeepsBits allowed next → has_bit (get_or next sum 0) bit ≡ true
     → FirstAllowed weights hand old allowed bit i → FirstAllowed weights hand old next bit (i + 1)
 first-more weights hand old allowed next bit i sum is keeps there state = record {
@@ -102,9 +93,6 @@ first-ends weights left hand old allowed bit i all state = allows-first left han
 pub record IsBehind (hand i rest : ℕ) : Type 0 where
   pub each : (k : ℕ) → code_at rest k ≡ code_at hand (i + k)
 
-pub behind-starts : (hand : ℕ) → IsBehind hand 0 hand
-behind-starts hand = record { each = λ k. ap (code_at hand) {x = k} {y = 0 + k} (omega arith) }
-
 pub behind-more : (hand i rest : ℕ) → IsBehind hand i rest → IsBehind hand (i + 1) (rest / 8)
 unfolding code_at
 behind-more hand i rest state = record { each = λ k. state.each (suc k) ∙ ap (code_at hand) {x = i + suc k} {y = i + 1 + k} (omega arith) }
@@ -114,13 +102,6 @@ pub record ButOneAllowed (weights : List ℕ) (hand whole : ℕ) (old allowed : 
   pub kept : KeepsBits old allowed
   pub behind : IsBehind hand i rest
   pub set_at : (index sum : ℕ) → index < i → sum + get_or weights (code_at hand index) 0 ≡ whole → has_bit (get_or allowed sum 0) bit ≡ true
-
-pub but-one-starts : (weights : List ℕ) (hand whole : ℕ) (allowed : List ℕ) (bit : ℕ) → ButOneAllowed weights hand whole allowed allowed bit 0 hand
-but-one-starts weights hand whole allowed bit = record {
-  kept = keeps-itself allowed;
-  behind = behind-starts hand;
-  set_at = λ index sum few is. absurd (omega arith);
-}
 
 pub but-one-more : (weights : List ℕ) (hand whole : ℕ) (old allowed next : List ℕ) (bit i rest without : ℕ) → without ≡ whole - get_or weights (rest % 8) 0 → KeepsBits allowed next → has_bit (get_or next without 0) bit ≡ true
     → ButOneAllowed weights hand whole old allowed bit i rest → ButOneAllowed weights hand whole old next bit (i + 1) (rest / 8)
@@ -143,9 +124,6 @@ pub record HeldAllowed (weights : List ℕ) (hand : ℕ) (old allowed : List ℕ
   pub kept : KeepsBits old allowed
   pub set_at : (count index sum : ℕ) → 0 < count → count ≤ i → index ≤ count → sum + get_or weights (code_at hand index) 0 ≡ first_weights weights (suc count) hand → has_bit (get_or allowed sum 0) bit ≡ true
 
-pub held-starts : (weights : List ℕ) (hand : ℕ) (allowed : List ℕ) (bit : ℕ) → HeldAllowed weights hand allowed allowed bit 0
-held-starts weights hand allowed bit = record { kept = keeps-itself allowed; set_at = λ count index sum some few low is. absurd (omega arith) }
-
 pub held-more : (weights : List ℕ) (hand : ℕ) (old allowed next : List ℕ) (bit i : ℕ) → KeepsBits allowed next
     → ((index sum : ℕ) → index < i + 2 → sum + get_or weights (code_at hand index) 0 ≡ first_weights weights (i + 2) hand → has_bit (get_or next sum 0) bit ≡ true)
     → HeldAllowed weights hand old allowed bit i → HeldAllowed weights hand old next bit (i + 1)
@@ -164,9 +142,6 @@ held-ends weights left hand old allowed bit i all state =
     allows-but-one left hand weights allowed bit (λ count index sum some few low is. state.set_at count index sum some (omega arith) low is)
 
 -- ---- one hand after the other
-
-pub noted-starts : (hold : Hold) (left : ℕ) (hands weights allowed : List ℕ) (open_hands : ℕ) → AreNoted hold left hands weights allowed open_hands 0
-noted-starts hold left hands weights allowed open_hands = record { each = λ k below none. absurd (omega arith) }
 
 -- a hand that allows its sums
 pub noted-more : (hold : Hold) (left : ℕ) (hands weights allowed next : List ℕ) (open_hands i : ℕ) → KeepsBits allowed next → AllowsTaken hold left (get_or hands i 0) weights next i
@@ -190,6 +165,6 @@ noted-open hold left hands weights allowed next open_hands i low keeps state = r
         | inl before ↦ allows-kept hold left (get_or hands k 0) weights allowed next k keeps (state.each k before both.0)
         | inr past ↦
             let same : k ≡ i = omega arith in
-            absurd (both_ways _ both.1 (ap (has_bit (1 * 2 ^ i % 2 ^ 64)) same ∙ own_bit i low))
+            absurd (both_ways _ both.1 (has_bit-one i k low ∙ eq-eqb k i same))
       ];
 }

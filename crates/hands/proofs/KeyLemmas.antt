@@ -3,7 +3,7 @@ use Rattle.std.proofs.Common.{ℕ, zero, suc, ◌≡◌, ◌+◌, ◌*◌, ◌/�
 use Rattle.std.proofs.lemmas.Bool.{cases_lt, cond_above, cond_below}
 use Rattle.std.proofs.Math.Arith.{mod-mul}
 use Rattle.std.proofs.Math.Nat.{div-div-eq-div-mul, one-le-pow, pow-suc}
-use Rattle.hands.specs.BlockHands.{IsHandAt, hand_at, hand_from}
+use Rattle.hands.specs.BlockHands.{hand_at, hand_from}
 use Rattle.hands.specs.Blocks.{ending_from, ending_of, key_from, key_of}
 
 key_from-short : (most hand : ℕ) → hand < 64 → key_from most hand ≡ 1
@@ -124,9 +124,6 @@ hand_from-back (suc most) (suc bound) hand within few = elim (cases_lt hand 64) 
 pub hand-back : (hand : ℕ) → hand_at (key_of hand) (ending_of hand) ≡ hand
 unfolding hand_at
 hand-back hand = hand_from-back (key_of hand) hand hand (omega arith) (omega arith)
-
-pub is-hand : (hand : ℕ) → hand < 2 ^ 64 → IsHandAt (key_of hand) (ending_of hand) (hand_at (key_of hand) (ending_of hand))
-is-hand hand fits = rw hand-back (record { fits = fits; key_is = refl; ending_is = refl })
 
 -- how many pieces are before the last two
 record Places (hand : ℕ) : Type 0 where

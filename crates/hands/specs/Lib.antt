@@ -5,5 +5,5 @@ pub mod Blocks
 pub mod HandSets
 -- What contracts cite beside these: sums of weights, and what is noted at them
 pub mod Weights
--- What the invariants of types cite
+-- What the invariants of types cite: what their private fields hold and stand for
 pub mod BlockHands

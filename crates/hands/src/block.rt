@@ -8,9 +8,9 @@ ghost use Rattle.hands.specs.Hands.{with_first, with_second};
 
 use lane_board::words::{bits_of_both, has_bit};
 
-/// The most hands that differ in their last two pieces alone. The key has the pieces before these two, and a 1 behind
-/// them. Bit `k` of the endings stands for the hand whose last two pieces have the number `k`; a hand of fewer than
-/// three pieces has the key 1.
+/// Hands that differ in their last two pieces alone. The key has the pieces before these two, and a 1 behind them. Bit
+/// `k` of the endings is set if the hand is there whose last two pieces have the number `k`. Hands of fewer than three
+/// pieces have the key 1.
 #[derive(Clone, Copy)]
 pub(crate) struct Block {
     pub(crate) key: u64,
