@@ -1,4 +1,3 @@
 -- Lemmas that the crates above cite.
 pub use Rattle.tiled_pieces.proofs.ListLaws.{LiesIn, left_by_part}
-pub use Rattle.tiled_pieces.proofs.OrderedLaws.{ordered_part_listed, ordered_rest_listed}
-pub use Rattle.tiled_pieces.proofs.RowLaws.{built-can-go, fewer-can-go}
+pub use Rattle.tiled_pieces.proofs.RowLaws.{built-can-go}

@@ -26,5 +26,4 @@ mod EightSets
 mod RowOrderLemmas
 mod RowLaws
 mod MovedOrders
-mod OrderedLaws
 pub mod CallerLemmas

@@ -53,10 +53,6 @@ agree f g (suc n) same =
     ∙ ap₂ (λ l x. l ++ x ∷ []) (agree f g n (λ k below. same k (omega (arith, below)))) (same n (omega arith))
     ∙ sym (map-range_with_len_more g 0 n n (omega arith)) ∙ ap (λ k. map g (range_with_len 0 k)) (sym one)
 
--- the pieces at the first slots
-pub at_first : (tiling after : ListedTiling) (count : ℕ) → ((k : ℕ) → k < count → laid_at after k ≡ laid_at tiling k) → map (laid_at after) (range_with_len 0 count) ≡ map (laid_at tiling) (range_with_len 0 count)
-at_first tiling after count same = agree (laid_at after) (laid_at tiling) count same
-
 pub one_more : (tiling after : ListedTiling) (count : ℕ) (last : LaidPiece) → ((k : ℕ) → k < count → laid_at after k ≡ laid_at tiling k) → laid_at after count ≡ last →
     map (laid_at after) (range_with_len 0 (count + 1)) ≡ map (laid_at tiling) (range_with_len 0 count) ++ last ∷ []
 one_more tiling after count last same at =

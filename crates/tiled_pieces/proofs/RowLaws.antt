@@ -1,14 +1,13 @@
 -- The rows of pieces that are put into a set one after the other can go one before the other.
 use Rattle.std.proofs.Common.{◌≡◌, ℕ, suc, ◌<◌, ◌≤◌, Bool, true, false, if◌then◌else◌, List, [], ◌∷◌, ap, inl, inr, arith}
 use Rattle.std.specs.Prelude.{All}
-use Rattle.std.specs.List.{Contains}
 use Rattle.std.proofs.lemmas.Bool.{and_parts, both_ways, cases_Bool, false_from_ne_true}
-use Rattle.std.proofs.lemmas.List.Elements.{All-cons, All-contains, All-contains_itself, All-nil, All-weaker}
+use Rattle.std.proofs.lemmas.List.Elements.{All-cons, All-nil, All-weaker}
 use Rattle.lane_board.specs.Field.{Field, difference}
 use Rattle.empty_cells.proofs.CallerLemmas.{IsSmall}
 use Rattle.tiled_pieces.specs.TilingLists.{LaidPiece}
 use Rattle.tiled_pieces.specs.Built.{AreBuilt, IsGone}
-use Rattle.tiled_pieces.specs.RowOrders.{CanGo, HasTurns, IsGap}
+use Rattle.tiled_pieces.specs.RowOrders.{CanGo, HasTurns}
 use Rattle.tiled_pieces.specs.Words.{has_row}
 use Rattle.tiled_pieces.proofs.LaidLemmas.{left_small}
 use Rattle.tiled_pieces.proofs.RowTests.{any_column, gone_row}
@@ -87,51 +86,3 @@ all_turns E drops (laid ∷ more) small (fits, built) = All-cons (HasTurns (gone
 -- pieces that can be put into a small set one after the other
 pub built-can-go : (E : Field) (drops : Bool) (order : List LaidPiece) → IsSmall 8 E → AreBuilt E drops order → CanGo order
 built-can-go E drops order small built = record { turn = gone_after E order; each = all_turns E drops order small built }
-
--- whether rows can go does not depend on the order of the pieces, nor on further ones
-pub fewer-can-go : (pieces others : List LaidPiece) → All (Contains pieces) others → CanGo pieces → CanGo others
-fewer-can-go pieces others among can = record {
-  turn = can.turn;
-  each = All-weaker (Contains pieces) (HasTurns can.turn) (λ laid there. All-contains (HasTurns can.turn) pieces laid can.each there) others among;
-}
-
--- ---- a piece before others
-
--- rows that have no cell go first
-first_turn : Field → (ℕ → ℕ) → ℕ → ℕ
-first_turn E turn row = if has_row E row then suc (turn row) else 0
-
-module _ (E : Field) (turn : ℕ → ℕ) (row : ℕ) where
-  turn_there : has_row E row ≡ true → first_turn E turn row ≡ suc (turn row)
-  unfolding first_turn
-  turn_there has = ap (λ b. if b then suc (turn row) else 0) has
-
-  turn_gone : has_row E row ≡ false → first_turn E turn row ≡ 0
-  unfolding first_turn
-  turn_gone none = ap (λ b. if b then suc (turn row) else 0) none
-
-  turn_most : first_turn E turn row ≤ suc (turn row)
-  turn_most = elim (cases_Bool (has_row E row)) [
-    | inl has ↦ omega (arith, turn_there has)
-    | inr none ↦ omega (arith, turn_gone none)
-  ]
-
--- a piece whose cells are in a set
-abbrev pub IsWithin : Field → LaidPiece → Type 0
-IsWithin E laid = (x y : ℕ) → laid.cells x y ≡ true → E x y ≡ true
-
--- where the gaps of a piece are gone, it can be put before others
-pub put-first : (E : Field) (laid : LaidPiece) (more : List LaidPiece) → IsSmall 8 E → ((row : ℕ) → IsGap laid row → IsGone E row) → IsWithin E laid → All (IsWithin E) more → CanGo more → CanGo (laid ∷ more)
-put-first E laid more small gone inside others can = record {
-  turn = first_turn E can.turn;
-  each = All-cons (HasTurns (first_turn E can.turn)) laid more
-      (record { before = λ gap row is has. omega (arith, turn_gone E can.turn gap (gone_row E gap (gone gap is)), turn_there E can.turn row (row_there E row has.x small (inside has.x row has.there))) })
-      (All-weaker (Contains more) (HasTurns (first_turn E can.turn))
-      (λ other there. later other (All-contains (HasTurns can.turn) more other can.each there) (All-contains (IsWithin E) more other others there)) more (All-contains_itself more));
-}
-  where
-    later : (other : LaidPiece) → HasTurns can.turn other → IsWithin E other → HasTurns (first_turn E can.turn) other
-    later other turns within = record {
-      before = λ gap row is has.
-          omega (arith, turns.before gap row is has, turn_most E can.turn gap, turn_there E can.turn row (row_there E row has.x small (within has.x row has.there)));
-    }

@@ -1,5 +1,5 @@
 -- Orders of rows as numbers: what one more row or piece brings.
-use Rattle.std.proofs.Common.{Option, Some, None, ◌≡◌, ◌⊎◌, ℕ, ◌+◌, ◌-◌, ◌*◌, ◌/◌, ◌%◌, ◌^◌, ◌<◌, Bool, true, false, not, ◌&&◌, ◌||◌, ◌==◌, nat_lt, bit_and, bit_or, List, ◌∷◌, sym, ap, subst, ◌∙◌, inl, inr, arith, rules}
+use Rattle.std.proofs.Common.{Option, Some, None, ◌≡◌, ℕ, ◌+◌, ◌-◌, ◌*◌, ◌/◌, ◌%◌, ◌^◌, ◌<◌, true, not, ◌&&◌, ◌==◌, nat_lt, bit_and, bit_or, List, ◌∷◌, sym, ap, subst, ◌∙◌, inl, inr, arith}
 use Rattle.std.specs.Prelude.{All, MatchOption}
 use Rattle.std.proofs.lemmas.Bool.{and_parts, both_ways, cases_eq, cases_lt, eq-eqb, or_cases}
 use Rattle.std.proofs.lemmas.Nat.{and_le_l, shl_whole}
@@ -34,9 +34,6 @@ not_none n some none = both_ways _ (ap not (eq-eqb n 0 none)) some
 pub record LaterSoFar (before rows rest later : ℕ) : Type 0 where
   pub left : (k : ℕ) → k < 8 → has_bit rest k ≡ true → has_bit rows k ≡ true
   pub goes : (turn : ℕ → ℕ) (z : ℕ) → Agrees turn before → GoesBefore turn z rows → GoesBefore turn z later
-
-pub later_start : (before rows : ℕ) → LaterSoFar before rows rows rows
-later_start before rows = record { left = λ k low bit. bit; goes = λ turn z agrees goes. goes }
 
 pub later_next : (before rows rest less later after row : ℕ) → row < 8 → has_bit rest row ≡ true → ((k : ℕ) → k < 8 → has_bit less k ≡ (has_bit rest k && not (k == row))) →
     ((r : ℕ) → r < 8 → has_bit after r ≡ has_bit before (8 * row + r)) → LaterSoFar before rows rest later → LaterSoFar before rows less (bit_or later after)
