@@ -1,10 +1,10 @@
 -- Hands that no listed tiling of their mark serves are not good. Of the others the tilings that serve them are used.
-use Rattle.std.proofs.Common.{◌≡◌, ◌↔◌, ℕ, ◌+◌, ◌<◌, ◌≤◌, ◌==◌, ◌||◌, Bool, true, false, not, bit_and, bit_xor, List, [], ◌∷◌, ◌++◌, length, length-append, length-set, get_or, take, replicate, refl, sym, ap, subst, ◌∙◌, inl, inr, arith}
+use Rattle.std.proofs.Common.{◌≡◌, ◌↔◌, ℕ, ◌+◌, ◌<◌, ◌≤◌, ◌==◌, ◌||◌, Bool, true, false, not, bit_and, bit_xor, List, [], ◌∷◌, ◌++◌, length, length-append, length-set, get_or, take, refl, sym, ap, subst, ◌∙◌, inl, inr, arith}
 use Rattle.std.proofs.Common.{set as list_set}
 use Rattle.std.specs.Prelude.{All, Contains, Some, slice_get}
 use Rattle.std.proofs.lemmas.Bool.{and_parts, cases_eq, cases_lt, eqb-true, false≢true, not-false, not-true, or_parts, true_from_ne_false}
 use Rattle.std.proofs.lemmas.Grind.{get_or-set_at, same_number_lists}
-use Rattle.std.proofs.lemmas.List.{get_or_append_left, get_or_default, get_or_push, get_or-set_other, get_or-replicate, length-replicate, take_all, take_more}
+use Rattle.std.proofs.lemmas.List.{get_or_append_left, get_or_default, get_or_push, get_or-set_other, take_all, take_more}
 use Rattle.std.proofs.lemmas.List.Elements.{All-set, Contains-append_left, Contains-append_right, Contains-push_cases}
 use Rattle.std.proofs.lemmas.Option.{get_or_from_slice_get, slice_get_read, slice_get_within}
 use Rattle.lane_board.specs.Field.{Field}
@@ -147,13 +147,6 @@ refused-bad marks left hand mark counts lists refused = unserved-bad marks left 
 
 -- ---- hands that are gathered
 
-pub gathered-starts : (marks : Marks) (mark : Mark) (left : ℕ) (hands : List ℕ) (block : Block) (used : List Bool) → block.len ≡ 0 → length used ≡ length mark.tilings.tilings.items → AreGathered marks mark left hands block used 0
-gathered-starts marks mark left hands block used none size = record {
-  size = size;
-  those = record { each = λ k below. absurd (omega (arith, none)) };
-  each = λ n low. absurd (omega arith);
-}
-
 -- a hand with other pieces
 pub gathered-pass : (marks : Marks) (mark : Mark) (left : ℕ) (hands : List ℕ) (block : Block) (used : List Bool) (i : ℕ) → (HasCounts mark.counts left (get_or hands i 0) → ⊥)
     → AreGathered marks mark left hands block used i → AreGathered marks mark left hands block used (i + 1)
@@ -217,12 +210,6 @@ gathered-ends marks mark left hands block old new i n all stays used state withi
 
 -- ---- hands that are tested
 
-pub tested-starts : (game : Game) (p : Position) (left : ℕ) (hands : List ℕ) (may : List Bool) → may ≡ replicate (length hands) true → AreTested game p left hands may
-tested-starts game p left hands may all = record {
-  size = ap length all ∙ length-replicate (length hands) true;
-  each = λ k below none. absurd (false≢true (sym none ∙ ap (λ l. get_or l k true) all ∙ get_or-replicate (length hands) k true true below));
-}
-
 -- a hand that is bad
 pub tested-bad : (game : Game) (p : Position) (left : ℕ) (hands : List ℕ) (may : List Bool) (index : ℕ) → index < length hands
     → is_good game (filled p.well) p.rows left (get_or hands index 0) ≡ false → AreTested game p left hands may → AreTested game p left hands (list_set may index false)
@@ -262,11 +249,7 @@ counts-more left hands counts more i here state = record {
 pub counts-end : (left : ℕ) (hands : List ℕ) (counts : List (List ℕ)) (i : ℕ) → i ≡ length hands → AreCountsBefore left hands counts i → AreCountsOf left hands counts
 counts-end left hands counts i all state = record { size = state.size ∙ all; each = λ k below. state.each k (omega (arith, all, below)) }
 
--- a hand whose counts are those of a mark
-pub hand-of : (mark : Mark) (left : ℕ) (hands : List ℕ) (counts : List (List ℕ)) (at : ℕ) → AreCountsOf left hands counts → at < length hands → get_or counts at [] ≡ mark.counts → IsHandOf mark left hands at
-hand-of mark left hands counts at are within same = record { within = within; counts = subst (λ c. HasCounts c left (get_or hands at 0)) same (are.each at within) }
-
--- and no other has them
+-- a hand has one list of counts
 pub same-counts : (left hand : ℕ) (a b : List ℕ) → HasCounts a left hand → HasCounts b left hand → a ≡ b
 same-counts left hand a b first second = same_number_lists a b (first.size ∙ sym second.size) (λ k low. let few : k < 8 = omega (arith, low, first.size) in first.each k few ∙ sym (second.each k few))
 

@@ -166,9 +166,6 @@ pub record Tallying (hand pieces i : ℕ) (counts : List ℕ) (rest : ℕ) : Typ
   pub few : (code : ℕ) → get_or counts code 0 ≤ i
   pub size : length counts ≡ 8
 
-pub tally-starts : (hand pieces : ℕ) (counts : List ℕ) → length counts ≡ 8 → ((code : ℕ) → get_or counts code 0 ≡ 0) → Tallying hand pieces 0 counts hand
-tally-starts hand pieces counts size none = search rules
-
 pub tally-more : (hand pieces i : ℕ) (counts : List ℕ) (rest : ℕ) → i < pieces → Tallying hand pieces i counts rest
     → Tallying hand pieces (i + 1) (list_set counts (rest % 8) (get_or counts (rest % 8) 0 + 1)) (rest / 8)
 unfolding codes_in
@@ -209,9 +206,6 @@ pub record Raising (a b counts : List ℕ) (i : ℕ) : Type 0 where
   pub first : (code : ℕ) → code < i → get_or a code 0 ≤ get_or counts code 0
   pub second : (code : ℕ) → code < i → get_or b code 0 ≤ get_or counts code 0
   pub size : length counts ≡ 8
-
-pub raise-starts : (a b counts : List ℕ) → length counts ≡ 8 → Raising a b counts 0
-raise-starts a b counts size = record { size = size; first = λ code low. absurd (omega arith); second = λ code low. absurd (omega arith) }
 
 raised : (xs counts : List ℕ) (i most : ℕ) → i < length counts → ((code : ℕ) → code < i → get_or xs code 0 ≤ get_or counts code 0) → get_or xs i 0 ≤ most
     → (code : ℕ) → code < i + 1 → get_or xs code 0 ≤ get_or (list_set counts i most) code 0

@@ -64,9 +64,6 @@ pub record Exploring (order : List Piece) (game now : Game) (F : Field) (rows le
 not_none : (a : Bool) → a ≡ (a && not false)
 not_none a = search rules
 
-pub explore-starts : (order : List Piece) (game : Game) (F : Field) (rows left : ℕ) (hands asked : HandSet) (steps : ℕ) → asked ≡ hands → Exploring order game game F rows left hands asked steps steps 0
-explore-starts order game F rows left hands asked steps is = search (rules, not_none)
-
 ask_less : (w a t u : Bool) → ((w && not a) ≡ true → t ≡ u) → ((w && not a) && not t) ≡ (w && not (a || u))
 ask_less w a t u same = search rules
 

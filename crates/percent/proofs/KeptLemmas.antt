@@ -1,5 +1,5 @@
 -- A slot stands for a position, and what is kept is true of it.
-use Rattle.std.proofs.Common.{◌≡◌, ℕ, nat_lt, Bool, true, false, ◌&&◌, ◌||◌, not, List, ◌+◌, ◌≤◌, All, Some, length, refl, sym, ap, subst, ◌∙◌, inl, inr, arith, rules}
+use Rattle.std.proofs.Common.{◌≡◌, ℕ, nat_lt, Bool, true, false, ◌&&◌, ◌||◌, List, ◌+◌, ◌≤◌, All, Some, length, refl, sym, ap, subst, ◌∙◌, inl, inr, arith, rules}
 use Rattle.std.specs.Prelude.{IfSome, slice_get}
 use Rattle.std.proofs.lemmas.List.Sums.{get_or-le-sum_by, sum_by-le, sum_by-set}
 use Rattle.std.proofs.Math.Path.{fun_ext}
@@ -104,12 +104,6 @@ new-slot game slot p left found missed both cells rows same found_is missed_is a
   found_true = λ hand there. (λ i. is_good game (cells i) (rows i) (same i) hand) ∙ are.found_true hand (ap (λ (s : HandSet). has s hand) (sym found_is) ∙ there);
   missed_true = λ hand there. (λ i. is_good game (cells i) (rows i) (same i) hand) ∙ are.missed_true hand (ap (λ (s : HandSet). has s hand) (sym missed_is) ∙ there);
 }
-
--- what is known and what is open make the answer
-pub recalled-is : (w f m rest unknown good g : Bool) → (f ≡ true → g ≡ true) → (m ≡ true → g ≡ false)
-    → rest ≡ (w && not m) → unknown ≡ (rest && not f) → good ≡ (rest && not unknown)
-    → (good || (unknown && g)) ≡ (w && g)
-recalled-is w f m rest unknown good g found missed rest_is unknown_is good_is = search rules
 
 -- ---- the table of slots
 

@@ -1,7 +1,7 @@
 -- A placement after which a rest is good stands in a listed tiling by the pieces of the rest and its own.
 use Rattle.std.proofs.Common.{ℕ, suc, cond, ◌≡◌, ◌↔◌, ◌∙◌, ◌+◌, ◌-◌, ◌*◌, ◌^◌, ◌%◌, ◌<◌, ◌≤◌, ◌⊎◌, Bool, true, false, ◌&&◌, ◌||◌, ◌==◌, bit_and, bit_or, List, [], ◌∷◌, ◌++◌, length, get_or, map, ap, refl, sym, subst, inl, inr, arith, rules}
 use Rattle.std.proofs.Math.Bool.{and-true, or-true, true-or}
-use Rattle.std.proofs.lemmas.Bool.{agree_below_at, cases_lt, both_ways, eqb-true, false_from_ne_true, or_parts}
+use Rattle.std.proofs.lemmas.Bool.{agree_below_at, cases_lt, both_ways, eq-eqb, eqb-true, false_from_ne_true, or_parts}
 use Rattle.std.specs.Prelude.{All, Contains, Option, Some, None, IfSome, IsSomeAnd, slice_get}
 use Rattle.std.proofs.lemmas.Option.{slice_get_within, get_or_from_slice_get}
 use Rattle.std.proofs.lemmas.List.Elements.{All-head, All-tail}
@@ -57,7 +57,7 @@ use Rattle.percent.specs.Spread.{IsSpread}
 use Rattle.percent.specs.Wanted.{IsWanted}
 use Rattle.percent.proofs.FittingLemmas.{low-position}
 use Rattle.percent.proofs.TiledLemmas.{IsRest, good-tiled, taken-rest}
-use Rattle.hands.proofs.CallerLemmas.{number-at, own_bit}
+use Rattle.hands.proofs.CallerLemmas.{has_bit-one, number-at}
 
 -- ---- the pieces of rests and of hands
 
@@ -214,9 +214,6 @@ pub all_set : (k : ℕ) → k < 64 → has_bit 18446744073709551615 k ≡ true
 unfolding has_bit
 all_set k below = agree_below_at (λ k. has_bit 18446744073709551615 k) (λ k. true) 64 k refl below
 
-pub standing-starts : (known : List Mark) (standing : Standing) → AreStandingBefore known standing 0
-standing-starts known standing = record { each = λ k below. absurd (omega arith) }
-
 -- the pieces of one mark more are added
 pub standing-more : (known : List Mark) (before after : StandingPieces) (others i : ℕ) (mark : Mark) → slice_get known i ≡ Some mark → after.piece ≡ before.piece
     → GrowsBy before.pieces.items after.pieces.items i (λ cells. SomeHas mark.tilings.tilings.items (record { piece = before.piece; cells = cells }))
@@ -243,7 +240,7 @@ standing-pass known pieces others i low state = record {
         | inl before ↦ state.each k before both.0 mark there cells some
         | inr past ↦
             let same : k ≡ i = omega arith in
-            absurd (both_ways _ both.1 (ap (has_bit (1 * 2 ^ i % 2 ^ 64)) same ∙ own_bit i low))
+            absurd (both_ways _ both.1 (has_bit-one i k low ∙ eq-eqb k i same))
       ];
 }
 
@@ -323,7 +320,7 @@ set-more indexes wanted i index state here low = record { each = each }
     kept (Some j) is = (is.0, has_bit-or wanted (1 * 2 ^ index % 2 ^ 64) j ∙ ap (λ b. b || has_bit (1 * 2 ^ index % 2 ^ 64) j) is.1 ∙ true-or (has_bit (1 * 2 ^ index % 2 ^ 64) j))
 
     own : IsSet (bit_or wanted (1 * 2 ^ index % 2 ^ 64)) (Some index)
-    own = (low, has_bit-or wanted (1 * 2 ^ index % 2 ^ 64) index ∙ ap (λ b. has_bit wanted index || b) (own_bit index low) ∙ or-true (has_bit wanted index))
+    own = (low, has_bit-or wanted (1 * 2 ^ index % 2 ^ 64) index ∙ ap (λ b. has_bit wanted index || b) (has_bit-one index index low ∙ eq-eqb index index refl) ∙ or-true (has_bit wanted index))
 
     each : (k : ℕ) → k < i + 1 → IsSet (bit_or wanted (1 * 2 ^ index % 2 ^ 64)) (get_or indexes k None)
     each k below = elim (cases_lt k i) [

@@ -54,10 +54,6 @@ rests-at marks piece left hold hands asked rests same fewer rests_are lists = re
 pub rests-fewer : (marks : Marks) (piece : Piece) (left : ℕ) (few many : ℕ → Bool) → ((rest : ℕ) → few rest ≡ true → many rest ≡ true) → AreRestsAt marks piece left many → AreRestsAt marks piece left few
 rests-fewer marks piece left few many fewer are = record { each = λ rest there. are.each rest (fewer rest there) }
 
--- marks of hands are marks of some of them
-pub marks-fewer : (marks : Marks) (left : ℕ) (few many : ℕ → Bool) → ((hand : ℕ) → few hand ≡ true → many hand ≡ true) → AreMarksOf marks left many → AreMarksOf marks left few
-marks-fewer marks left few many fewer are = record { each = λ hand there. are.each hand (fewer hand there) }
-
 -- what is among some is there
 pub first-true : (a b c : Bool) → a ≡ (b && c) → a ≡ true → b ≡ true
 first-true a b c is there = (and_parts b c (sym is ∙ there)).0

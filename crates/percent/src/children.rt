@@ -22,6 +22,7 @@ use crate::marks::{Asked, Marks};
 use crate::order::rank;
 use crate::position::Child;
 use empty_cells::Empties;
+use lane_board::words::has_bit;
 use pc_outside::NoMemory;
 use reach::Steps;
 use srs::{Piece, Placement};
@@ -65,7 +66,7 @@ impl Marks {
         let mut pieces = StandingPieces::new(alloc, piece)?;
         let mut others = 0;
         for index in 0..self.known.len().min(64) {
-            if wanted >> index & 1 == 1 {
+            if has_bit(wanted, index as u16) {
                 pieces.add(&self.known[index].tilings, index as u8)?;
             } else {
                 others |= 1 << index;

@@ -23,6 +23,7 @@ use crate::game::Game;
 use crate::position::{Child, Position};
 use empty_cells::Empties;
 use hands::HandSet;
+use lane_board::words::has_bit;
 use pc_outside::NoMemory;
 use srs::{Piece, Placement};
 use std::alloc::Global;
@@ -131,7 +132,7 @@ fn may_stand(index: Option<u8>, standing: u64) -> bool
     if 63 < known_index {
         return true;
     }
-    standing >> known_index & 1 == 1
+    has_bit(standing, u16::from(known_index))
 }
 
 impl Marks {

@@ -64,7 +64,8 @@ impl Marks {
     ghost use Rattle.percent.specs.ListedHands.{AreMarksOf};
 
     /// Notes which hands with the pieces of one mark are bad, and leaves out its tilings that serve none of them. With
-    /// hard drops, where that costs more than it spares, all stay. So they do if there is not enough memory.
+    /// hard drops, where that costs more than it spares, all stay. So they do if there is not enough memory for a list
+    /// without those; `NoMemory` if there is not enough for a flag for each tiling.
     fn narrow_mark(
         &mut self,
         alloc: Global,

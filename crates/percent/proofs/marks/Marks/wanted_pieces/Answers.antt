@@ -4,21 +4,21 @@ use Rattle.std.proofs.lemmas.Bool.{cases_lt}
 use Rattle.std.proofs.lemmas.Option.{slice_get_read}
 use Rattle.percent.proofs.MarkLemmas.{standing-ends, standing-more, standing-pass}
 use Rattle.percent.proofs.marks.Marks.wanted_pieces.Goals as goal
-use Rattle.percent.proofs.marks.Marks.wanted_pieces.Goals.{then-wanted-index-eq1+in_ok-add, else-wanted-index-eq1}
+use Rattle.percent.proofs.marks.Marks.wanted_pieces.Goals.{then-has_bit+in_ok-add, else-has_bit}
 
 pub loop-index-preserved : goal.loop-index-preserved
 loop-index-preserved c =
     let known = c.args.self.now.known.items in
     let index = c.loop-index.index in
     let state = c.loop-index.invariant.1 in
-    elim c.if-wanted-index-eq1.branch [
-      | then-wanted-index-eq1+in_ok-add w ↦ rw (w.pieces-is, w.others-is) (
+    elim c.if-has_bit.branch [
+      | then-has_bit+in_ok-add w ↦ rw (w.pieces-is, w.others-is) (
         w.in_ok-add.ensures.kind ∙ c.loop-index.invariant.0,
         standing-more known c.loop-index.pieces w.add.new.self c.loop-index.others index w.index.result.now
             (slice_get_read known _ index w.index.result.now refl (omega (arith, c.loop-index-test.true, c.min-index-end.ensures, c.len.ensures)) w.index.ensures)
             w.in_ok-add.ensures.kind w.in_ok-add.ensures.added state,
       )
-      | else-wanted-index-eq1 w ↦ rw (w.pieces-is, w.others-is) (
+      | else-has_bit w ↦ rw (w.pieces-is, w.others-is) (
         c.loop-index.invariant.0,
         standing-pass known c.loop-index.pieces c.loop-index.others index (omega (arith, c.loop-index-test.true, c.min-index-end.ensures)) state,
       )
