@@ -39,53 +39,67 @@ bit-set allowed sum bit within low =
 
 -- ---- the sum of the first weights
 
--- the weights of the first i pieces and those of the rest make up the whole
-pub record Summing (weights : List ℕ) (count hand i sum rest : ℕ) : Type 0 where
-  pub is : sum + first_weights weights (count - i) rest ≡ first_weights weights count hand
+-- the weights of the first i pieces, and those of the next ones
+pub record Summing (weights : List ℕ) (hand i sum rest : ℕ) : Type 0 where
+  pub is : (more : ℕ) → sum + first_weights weights more rest ≡ first_weights weights (i + more) hand
   pub small : sum ≤ 65535 * i
 
-pub sum-starts : (weights : List ℕ) (count hand : ℕ) → Summing weights count hand 0 0 hand
-sum-starts weights count hand =
-    let whole = ap (λ n. first_weights weights n hand) {x = count - 0} {y = count} (omega arith) in
-    record { is = omega (arith, whole); small = omega arith }
+pub sum-starts : (weights : List ℕ) (hand : ℕ) → Summing weights hand 0 0 hand
+sum-starts weights hand = record {
+  is = λ more. (let same = ap (λ n. first_weights weights n hand) {x = more} {y = 0 + more} (omega arith) in omega (arith, same));
+  small = omega arith;
+}
 
-pub sum-more : (weights : List ℕ) (count hand i sum rest : ℕ) → i < count → get_or weights (rest % 8) 0 ≤ 65535 → Summing weights count hand i sum rest
-    → Summing weights count hand (i + 1) (sum + get_or weights (rest % 8) 0) (rest / 8)
+pub sum-more : (weights : List ℕ) (hand i sum rest weight : ℕ) → weight ≡ get_or weights (rest % 8) 0 → weight ≤ 65535 → Summing weights hand i sum rest
+    → Summing weights hand (i + 1) (sum + weight) (rest / 8)
 unfolding first_weights
-sum-more weights count hand i sum rest more light state =
-    let one : count - i ≡ suc (count - (i + 1)) = omega arith in
-    let before = ap (λ n. sum + first_weights weights n rest) (sym one) ∙ state.is in
-    let small = state.small in
-    record { is = omega (arith, before); small = omega (arith, small, light) }
+sum-more weights hand i sum rest weight is light state =
+    let small = state.small in record {
+      is = λ more.
+          let longer = state.is (suc more) ∙ ap (λ n. first_weights weights n hand) {x = i + suc more} {y = i + 1 + more} (omega arith) in
+          omega (arith, is, longer);
+      small = omega (arith, small, light);
+    }
 
-pub sum-ends : (weights : List ℕ) (count hand i sum rest : ℕ) → count ≤ i → Summing weights count hand i sum rest → sum ≡ first_weights weights count hand
+pub sum-ends : (weights : List ℕ) (hand i sum rest : ℕ) → Summing weights hand i sum rest → sum ≡ first_weights weights i hand
 unfolding first_weights
-sum-ends weights count hand i sum rest all state =
-    let none : count - i ≡ 0 = omega arith in
-    let before = ap (λ n. sum + first_weights weights n rest) (sym none) ∙ state.is in
-    omega (arith, before)
+sum-ends weights hand i sum rest state =
+    let whole = state.is 0 ∙ ap (λ n. first_weights weights n hand) {x = i + 0} {y = i} (omega arith) in
+    omega (arith, whole)
 
 -- ---- without hold
 
 -- a bit is set at the sums of the first pieces, at most i
-pub record FirstAllowed (weights : List ℕ) (hand : ℕ) (old allowed : List ℕ) (bit i : ℕ) : Type 0 where
+pub record FirstAllowed (weights : List ℕ) (hand : ℕ) (old allowed : List ℕ) (bit i sum rest : ℕ) : Type 0 where
   pub kept : KeepsBits old allowed
+  pub summing : Summing weights hand i sum rest
   pub set_at : (count : ℕ) → 0 < count → count ≤ i → has_bit (get_or allowed (first_weights weights count hand) 0) bit ≡ true
 
-pub first-more : (weights : List ℕ) (hand : ℕ) (old allowed next : List ℕ) (bit i sum : ℕ) → sum ≡ first_weights weights (i + 1) hand → KeepsBits allowed next → has_bit (get_or next sum 0) bit ≡ true
-    → FirstAllowed weights hand old allowed bit i → FirstAllowed weights hand old next bit (i + 1)
-first-more weights hand old allowed next bit i sum is keeps there state = record {
-  kept = keeps-on old allowed next state.kept keeps;
-  set_at = λ count some few. elim (cases_lt count (i + 1)) [
-    | inl before ↦ keeps.each _ bit (state.set_at count some (omega arith))
-    | inr past ↦
-        let same : count ≡ i + 1 = omega arith in
-        ap (λ n. has_bit (get_or next (first_weights weights n hand) 0) bit) same ∙ ap (λ n. has_bit (get_or next n 0) bit) (sym is) ∙ there
-  ];
+pub first-starts : (weights : List ℕ) (hand : ℕ) (allowed : List ℕ) (bit : ℕ) → FirstAllowed weights hand allowed allowed bit 0 0 hand
+first-starts weights hand allowed bit = record {
+  kept = record { each = λ sum bit there. there };
+  summing = sum-starts weights hand;
+  set_at = λ count some few. absurd (omega arith);
 }
 
-pub first-ends : (weights : List ℕ) (left hand : ℕ) (old allowed : List ℕ) (bit i : ℕ) → left ≤ i → FirstAllowed weights hand old allowed bit i → AllowsTaken Avoided left hand weights allowed bit
-first-ends weights left hand old allowed bit i all state = allows-first left hand weights allowed bit (λ count some few. state.set_at count some (omega arith))
+pub first-more : (weights : List ℕ) (hand : ℕ) (old allowed next : List ℕ) (bit i sum rest weight : ℕ) → weight ≡ get_or weights (rest % 8) 0 → weight ≤ 65535 → KeepsBits allowed next
+    → has_bit (get_or next (sum + weight) 0) bit ≡ true → FirstAllowed weights hand old allowed bit i sum rest
+    → FirstAllowed weights hand old next bit (i + 1) (sum + weight) (rest / 8)
+first-more weights hand old allowed next bit i sum rest weight is light keeps there state =
+    let summing = sum-more weights hand i sum rest weight is light state.summing in record {
+      kept = keeps-on old allowed next state.kept keeps;
+      summing = summing;
+      set_at = λ count some few. elim (cases_lt count (i + 1)) [
+        | inl before ↦ keeps.each _ bit (state.set_at count some (omega arith))
+        | inr past ↦
+            let same : count ≡ i + 1 = omega arith in
+            ap (λ n. has_bit (get_or next (first_weights weights n hand) 0) bit) same
+            ∙ ap (λ n. has_bit (get_or next n 0) bit) (sym (sum-ends weights hand (i + 1) (sum + weight) (rest / 8) summing)) ∙ there
+      ];
+    }
+
+pub first-ends : (weights : List ℕ) (left hand : ℕ) (old allowed : List ℕ) (bit i sum rest : ℕ) → left ≤ i → FirstAllowed weights hand old allowed bit i sum rest → AllowsTaken Avoided left hand weights allowed bit
+first-ends weights left hand old allowed bit i sum rest all state = allows-first left hand weights allowed bit (λ count some few. state.set_at count some (omega arith))
 
 -- ---- with hold
 
@@ -144,27 +158,28 @@ held-ends weights left hand old allowed bit i all state =
 -- ---- one hand after the other
 
 -- a hand that allows its sums
-pub noted-more : (hold : Hold) (left : ℕ) (hands weights allowed next : List ℕ) (open_hands i : ℕ) → KeepsBits allowed next → AllowsTaken hold left (get_or hands i 0) weights next i
-    → AreNoted hold left hands weights allowed open_hands i → AreNoted hold left hands weights next open_hands (i + 1)
-noted-more hold left hands weights allowed next open_hands i keeps allows state = record {
+pub noted-more : (hold : Hold) (left : ℕ) (hands weights : List ℕ) (size : ℕ) (allowed next : List ℕ) (open_hands i : ℕ) → KeepsBits allowed next → AllowsTaken hold left (get_or hands i 0) weights next (i / size)
+    → AreNoted hold left hands weights size allowed open_hands i → AreNoted hold left hands weights size next open_hands (i + 1)
+noted-more hold left hands weights size allowed next open_hands i keeps allows state = record {
   each = λ k below none. elim (cases_lt k i) [
-    | inl before ↦ allows-kept hold left (get_or hands k 0) weights allowed next k keeps (state.each k before none)
+    | inl before ↦ allows-kept hold left (get_or hands k 0) weights allowed next (k / size) keeps (state.each k before none)
     | inr past ↦
         let same : i ≡ k = omega arith in
-        subst (λ n. AllowsTaken hold left (get_or hands n 0) weights next n) same allows
+        subst (λ n. AllowsTaken hold left (get_or hands n 0) weights next (n / size)) same allows
   ];
 }
 
 -- a hand that is open
-pub noted-open : (hold : Hold) (left : ℕ) (hands weights allowed next : List ℕ) (open_hands i : ℕ) → i < 64 → KeepsBits allowed next
-    → AreNoted hold left hands weights allowed open_hands i → AreNoted hold left hands weights next (bit_or open_hands (1 * 2 ^ i % 2 ^ 64)) (i + 1)
-noted-open hold left hands weights allowed next open_hands i low keeps state = record {
+pub noted-open : (hold : Hold) (left : ℕ) (hands weights : List ℕ) (size : ℕ) (allowed next : List ℕ) (open_hands i : ℕ) → i / size < 64 → KeepsBits allowed next
+    → AreNoted hold left hands weights size allowed open_hands i → AreNoted hold left hands weights size next (bit_or open_hands (1 * 2 ^ (i / size) % 2 ^ 64)) (i + 1)
+noted-open hold left hands weights size allowed next open_hands i low keeps state = record {
   each = λ k below none.
-      let both = or_parts (has_bit open_hands k) (has_bit (1 * 2 ^ i % 2 ^ 64) k) (sym (has_bit-or open_hands (1 * 2 ^ i % 2 ^ 64) k) ∙ none) in
+      let bit = 1 * 2 ^ (i / size) % 2 ^ 64 in
+      let both = or_parts (has_bit open_hands (k / size)) (has_bit bit (k / size)) (sym (has_bit-or open_hands bit (k / size)) ∙ none) in
       elim (cases_lt k i) [
-        | inl before ↦ allows-kept hold left (get_or hands k 0) weights allowed next k keeps (state.each k before both.0)
+        | inl before ↦ allows-kept hold left (get_or hands k 0) weights allowed next (k / size) keeps (state.each k before both.0)
         | inr past ↦
             let same : k ≡ i = omega arith in
-            absurd (both_ways _ both.1 (has_bit-one i k low ∙ eq-eqb k i same))
+            absurd (both_ways _ both.1 (has_bit-one (i / size) (k / size) low ∙ eq-eqb (k / size) (i / size) (ap (λ n. n / size) same)))
       ];
 }

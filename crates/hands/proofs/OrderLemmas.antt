@@ -1,13 +1,13 @@
 -- Blocks whose keys rise, and where a key stands among them.
 use Rattle.std.proofs.Common.{ℕ, ◌≡◌, ◌≢◌, ◌+◌, ◌-◌, ◌<◌, ◌≤◌, false, ◌||◌, ◌&&◌, List, [], length, get_or, take, drop, All, ap, ◌∙◌, arith, inl, inr, rules}
 use Rattle.std.proofs.lemmas.Bool.{cases_lt, or_from, eq-eqb}
-use Rattle.std.proofs.lemmas.List.{length-map, get_or-map, get_or-drop, get_or-take, get_or_default, drop_more, length-drop, length-take}
+use Rattle.std.proofs.lemmas.List.{length-map, get_or-map, get_or-drop, get_or-take, get_or_default, drop_more, length-drop, length-take, take_all}
 use Rattle.std.proofs.Math.Bool.{or-false}
 use Rattle.lane_board.specs.Lanes.{has_bit}
 use Rattle.hands.specs.declared.block.Block.{Block}
 use Rattle.hands.specs.BlockHands.{AreInOrder, IsBlock, keys_of}
 use Rattle.hands.specs.Blocks.{have_parts}
-use Rattle.hands.proofs.PartLemmas.{parts-absent, parts-cut, parts-first, has_part}
+use Rattle.hands.proofs.PartLemmas.{no_block, parts-absent, parts-cut, parts-first, has_part}
 
 pub keys-length : (blocks : List Block) → length (keys_of blocks) ≡ length blocks
 unfolding keys_of
@@ -28,6 +28,28 @@ rises-from blocks d up i j before below =
     let within : j < length blocks = omega (arith, keys-length blocks, below) in
     let step = up i j before within in
     omega (arith, step, key-at blocks i d (omega arith), key-at blocks j d within)
+
+-- the first blocks, and the others
+pub in_order-take : (blocks : List Block) (n : ℕ) → AreInOrder blocks → AreInOrder (take n blocks)
+in_order-take blocks n up = rises-from (take n blocks) no_block (λ i j before within.
+    let size = length-take n blocks in
+    let low : j < n = omega (arith, size, within) in
+    let step = rises-at blocks i j no_block no_block up before (omega (arith, size, within)) in
+    let one = ap (λ (b : Block). b.key) (get_or-take n blocks i no_block (omega (arith, before, low))) in
+    let two = ap (λ (b : Block). b.key) (get_or-take n blocks j no_block low) in
+    omega (arith, step, one, two))
+
+pub in_order-drop : (blocks : List Block) (n : ℕ) → AreInOrder blocks → AreInOrder (drop n blocks)
+in_order-drop blocks n up = rises-from (drop n blocks) no_block (λ i j before within.
+    let size = length-drop n blocks in
+    let step = rises-at blocks (n + i) (n + j) no_block no_block up (omega (arith, before)) (omega (arith, size, within)) in
+    let one = ap (λ (b : Block). b.key) (get_or-drop n blocks i no_block) in
+    let two = ap (λ (b : Block). b.key) (get_or-drop n blocks j no_block) in
+    omega (arith, step, one, two))
+
+-- all blocks from an index on
+pub behind-cut : (blocks slice others : List Block) (cut : ℕ) → others ≡ take (length slice - cut) (drop cut slice) → slice ≡ blocks → others ≡ drop cut blocks
+behind-cut blocks slice others cut is same = is ∙ take_all (length slice - cut) (drop cut slice) (omega (arith, length-drop cut slice)) ∙ ap (drop cut) same
 
 -- the keys before an index are below this one
 pub record IsPassed (blocks : List Block) (next key : ℕ) : Type 0 where

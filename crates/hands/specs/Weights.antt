@@ -31,6 +31,9 @@ first_weights weights (suc count) hand = slice_index weights (hand % 8) + first_
 pub record KeepsBits (old new : List ℕ) : Type 0 where
   pub each : (sum bit : ℕ) → has_bit (slice_index old sum) bit ≡ true → has_bit (slice_index new sum) bit ≡ true
 
--- each of the first so many hands is open, or its bit is set at all sums of pieces that can be taken from it
-pub record AreNoted (hold : Hold) (left : ℕ) (hands weights allowed : List ℕ) (open_hands count : ℕ) : Type 0 where
-  pub each : (k : ℕ) → k < count → has_bit open_hands k ≡ false → AllowsTaken hold left (slice_index hands k) weights allowed k
+-- One bit stands for so many hands side by side. Each of the first `count` hands is open with its bit, or this bit is set
+-- at all sums of pieces that can be taken from it.
+pub record AreNoted (hold : Hold) (left : ℕ) (hands weights : List ℕ) (size : ℕ) (allowed : List ℕ) (open_hands count : ℕ)
+    : Type 0 where
+  pub each : (k : ℕ) → k < count → has_bit open_hands (k / size) ≡ false
+      → AllowsTaken hold left (slice_index hands k) weights allowed (k / size)

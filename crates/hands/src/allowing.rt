@@ -1,5 +1,5 @@
 // What hands allow: the sums of the weights of pieces that can be taken from them one after the other.
-ghost use Rattle.std.specs.Prelude.{◌≡◌, ℕ, ◌≤◌, ◌<◌, ◌+◌, length, slice_index, true};
+ghost use Rattle.std.specs.Prelude.{◌≡◌, ℕ, ◌≤◌, ◌<◌, ◌+◌, ◌*◌, length, slice_index, true};
 ghost use Rattle.lane_board.specs.Lanes.{has_bit};
 ghost use Rattle.hold_queue.specs.declared.hold.Hold.TheVariants;
 ghost use Rattle.hands.specs.Weights;
@@ -7,7 +7,7 @@ ghost use Rattle.hands.specs.Weights.{AllowsTaken, AreNoted, KeepsBits, code_at}
 
 use hold_queue::Hold;
 
-/// A table that has for each sum of weights below 512 the hands that allow it, one bit each.
+/// A table that has for each sum of weights below 512 the hands that allow it, as bits.
 pub type Sums = [u64; 512];
 
 /// Weights of kinds by which any two choices of so many pieces of each kind have different sums, if these are small.
@@ -54,8 +54,11 @@ fn allow_first(allowed: &mut Sums, weights: &[u16; 8], left: u8, hand: u64, bit:
     ensures kept { KeepsBits allowed.old allowed.new }
     ensures allows { result ≡ true → AllowsTaken TheVariants.Avoided left hand weights.now allowed.new bit }
 {
-    for count in 0..left {
-        let sum = first_weights(weights, count + 1, hand);
+    let mut sum = 0;
+    let mut rest = hand;
+    for _ in 0..left {
+        sum += usize::from(weights[(rest % 8) as usize]);
+        rest /= 8;
         if !set_at(allowed, sum, bit) {
             return false;
         }
@@ -112,17 +115,20 @@ fn allow(allowed: &mut Sums, hold: Hold, weights: &[u16; 8], left: u8, hand: u64
     }
 }
 
-/// What up to 64 hands allow, and those of which some sum is not in the table.
-pub fn sums_of(hold: Hold, weights: &[u16; 8], left: u8, hands: &[u64]) -> (Sums, u64)
+/// What hands allow, and those of which some sum is not in the table. One bit stands for `size` hands side by side, of
+/// which any may allow a sum.
+pub fn sums_of(hold: Hold, weights: &[u16; 8], left: u8, hands: &[u64], size: usize) -> (Sums, u64)
     requires few { left ≤ 20 }
-    requires hands { length hands.now ≤ 64 }
-    ensures { AreNoted hold left hands.now weights.now result.0 result.1 (length hands.now) }
+    requires some { 0 < size }
+    requires hands { length hands.now ≤ 64 * size }
+    ensures { AreNoted hold left hands.now weights.now size result.0 result.1 (length hands.now) }
 {
     let mut allowed = [0; 512];
     let mut open = 0;
     for index in 0..hands.len() {
-        if !allow(&mut allowed, hold, weights, left, hands[index], index as u8) {
-            open |= 1 << index;
+        let bit = index / size;
+        if !allow(&mut allowed, hold, weights, left, hands[index], bit as u8) {
+            open |= 1 << bit;
         }
     }
     (allowed, open)

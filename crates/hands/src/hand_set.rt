@@ -157,6 +157,18 @@ impl HandSet {
         self.blocks.len()
     }
 
+    /// The hands of its first `count` blocks, and those of the others.
+    pub fn split_at(&self, alloc: Global, count: usize) -> Result<(HandSet, HandSet), NoMemory>
+        ensures parts { IfOk result (λ v. (hand : ℕ) → has self.now hand ≡ (has v.0 hand || has v.1 hand)) }
+        ensures size { IfOk result (λ v. block_count v.1 ≡ block_count self.now - count) }
+    {
+        let cut = count.min(self.blocks.len());
+        let blocks = self.blocks.as_slice();
+        let first = Vec::from_slice(alloc, &blocks[..cut])?;
+        let others = Vec::from_slice(alloc, &blocks[cut..])?;
+        Ok((HandSet { blocks: first }, HandSet { blocks: others }))
+    }
+
     /// Whether it has no hand.
     pub fn is_empty(&self) -> bool
         ensures { IsTrue result ↔ ((hand : ℕ) → has self.now hand ≡ false) }

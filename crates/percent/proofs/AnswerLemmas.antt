@@ -3,8 +3,7 @@ use Rattle.std.proofs.Common.{not, ℕ, ◌≡◌, ◌+◌, ◌%◌, ◌<◌, �
 use Rattle.std.specs.Prelude.{Some, slice_get, count_by}
 use Rattle.std.proofs.lemmas.Bool.{cases_lt, eq-eqb, or_left, or_right, and_right}
 use Rattle.std.proofs.lemmas.Bool.Decides.{nat_tests}
-use Rattle.std.proofs.lemmas.List.{take_all, length-take, get_or_append_left, get_or-append_right}
-use Rattle.std.proofs.lemmas.List.Sums.{count_by_more_no, count_by_more_yes, count_by-le-length}
+use Rattle.std.proofs.lemmas.List.{get_or_append_left, get_or-append_right}
 use Rattle.std.proofs.lemmas.Option.{get_or_from_slice_get}
 use Rattle.srs.specs.declared.piece.Piece.{Piece}
 use Rattle.percent.specs.Good.{Good}
@@ -59,23 +58,6 @@ good-hands problem hands good all good_is = search rules
 -- so many of the first queues are good
 pub record Counting (problem : Problem) (number count : ℕ) : Type 0 where
   pub is : count ≡ count_by (is_good_queue problem) (take number (queues (elements_of problem.pattern)))
-
-pub count-starts : (problem : Problem) → Counting problem 0 0
-count-starts problem = record { is = refl }
-
-pub count-yes : (problem : Problem) (answers : List Bool) (all number count : ℕ) → AreAnswers problem answers all → all ≡ length (queues (elements_of problem.pattern)) → number < all
-    → get_or answers number false ≡ true → Counting problem number count → Counting problem (number + 1) (count + 1)
-count-yes problem answers all number count are whole within passes state = search (rules, count_by_more_yes)
-
-pub count-no : (problem : Problem) (answers : List Bool) (all number count : ℕ) → AreAnswers problem answers all → all ≡ length (queues (elements_of problem.pattern)) → number < all
-    → get_or answers number false ≡ false → Counting problem number count → Counting problem (number + 1) count
-count-no problem answers all number count are whole within fails state = search (rules, count_by_more_no)
-
-pub count-few : (problem : Problem) (number count : ℕ) → Counting problem number count → count ≤ number
-count-few problem number count state = search (rules, count_by-le-length, length-take)
-
-pub count-ends : (problem : Problem) (number count : ℕ) → length (queues (elements_of problem.pattern)) ≤ number → Counting problem number count → count ≡ count_by (is_good_queue problem) (queues (elements_of problem.pattern))
-count-ends problem number count all state = state.is ∙ ap (count_by (is_good_queue problem)) (take_all number (queues (elements_of problem.pattern)) all)
 
 decided : (problem : Problem) (queue : List Piece) (result : Bool) → IsFit problem → result ≡ is_good_queue problem queue → IsTrue result ↔ Good problem queue
 decided problem queue result fit is = subst (λ b. IsTrue b ↔ Good problem queue) (sym is) (good-decides problem queue fit)

@@ -1,8 +1,8 @@
 -- Hands that no listed tiling of their mark serves are not good. Of the others the tilings that serve them are used.
-use Rattle.std.proofs.Common.{◌≡◌, ◌↔◌, ℕ, ◌+◌, ◌<◌, ◌≤◌, ◌==◌, ◌||◌, Bool, true, false, not, bit_and, bit_xor, List, [], ◌∷◌, ◌++◌, length, length-append, length-set, get_or, take, refl, sym, ap, subst, ◌∙◌, inl, inr, arith}
+use Rattle.std.proofs.Common.{◌≡◌, ◌↔◌, ℕ, ◌+◌, ◌<◌, ◌≤◌, ◌==◌, ◌||◌, ◌/◌, Bool, true, false, not, bit_and, bit_xor, List, [], ◌∷◌, ◌++◌, length, length-append, length-set, get_or, take, refl, sym, ap, subst, ◌∙◌, inl, inr, arith, div-one}
 use Rattle.std.proofs.Common.{set as list_set}
 use Rattle.std.specs.Prelude.{All, Contains, Some, slice_get}
-use Rattle.std.proofs.lemmas.Bool.{and_parts, cases_eq, cases_lt, eqb-true, false≢true, not-false, not-true, or_parts, true_from_ne_false}
+use Rattle.std.proofs.lemmas.Bool.{and_parts, cases_eq, cases_lt, eq-eqb, eqb-true, false≢true, not-false, not-true, or_left, or_parts, or_right, true_from_ne_false}
 use Rattle.std.proofs.lemmas.Grind.{get_or-set_at, same_number_lists}
 use Rattle.std.proofs.lemmas.List.{get_or_append_left, get_or_default, get_or_push, get_or-set_other, take_all, take_more}
 use Rattle.std.proofs.lemmas.List.Elements.{All-set, Contains-append_left, Contains-append_right, Contains-push_cases}
@@ -14,7 +14,7 @@ use Rattle.well.specs.Well.{filled}
 use Rattle.hands.specs.declared.hand_set.HandSet.{HandSet}
 use Rattle.hands.specs.HandSets.{has}
 use Rattle.hands.specs.Numbers.{has_number}
-use Rattle.hands.proofs.CallerLemmas.{number-at}
+use Rattle.hands.proofs.CallerLemmas.{has-push, number-at}
 use Rattle.empty_cells.specs.Empties.{empty_cells}
 use Rattle.tiled_pieces.specs.declared.listed.ListedTiling.{ListedTiling}
 use Rattle.tiled_pieces.specs.Served.{IsServed}
@@ -23,7 +23,7 @@ use Rattle.percent.specs.declared.game.Game.{Game}
 use Rattle.percent.specs.declared.marks.Mark.{Mark}
 use Rattle.percent.specs.declared.marks.Marks.{Marks}
 use Rattle.percent.specs.declared.position.Position.{Position}
-use Rattle.percent.specs.Building.{AllListHands, AreCountsOf, AreGathered, AreTested, IsHandOf, IsRefused, IsUsedBy, StaysUsed}
+use Rattle.percent.specs.Building.{AllListHands, AreCountsOf, AreGathered, AreTested, IsHandOf, IsRefused, IsUsedBy, IsUsedByAll, StaysUsed}
 use Rattle.hands.specs.Weights.{AreNoted}
 use Rattle.percent.specs.GoodHands.{is_good}
 use Rattle.percent.specs.ListedHands.{AllListHand, AreMarksOf, ListsHand}
@@ -61,15 +61,18 @@ pending-more list E drops weights allowed open_hands pending i asked served x wi
     parts k there = and_parts (has_bit pending k) (not (has_bit served k)) (sym (has_bit-and_not pending served k) ∙ there)
 
 pub pending-ends : (marks : Marks) (mark : Mark) (left : ℕ) (hands weights allowed : List ℕ) (open_hands pending i k : ℕ) → length mark.tilings.tilings.items ≤ i → length hands ≤ 64
-    → AreNoted marks.game.hold left hands weights allowed open_hands (length hands)
+    → AreNoted marks.game.hold left hands weights 1 allowed open_hands (length hands)
     → Pending mark.tilings.tilings.items (empty_cells marks.cells) marks.drops weights allowed open_hands pending i → k < length hands → has_bit pending k ≡ true → IsRefused marks left mark (get_or hands k 0)
 pending-ends marks mark left hands weights allowed open_hands pending i k all few noted state within there = record {
   weights = weights;
   allowed = allowed;
-  bit = k;
-  allows = noted.each k within (state.closed k there);
-  none = λ tiling listed. state.none k (omega (arith, within, few)) there tiling (subst (λ l. Contains l tiling) (sym (take_all i mark.tilings.tilings.items all)) listed);
+  bit = k / 1;
+  allows = noted.each k within (ap (has_bit open_hands) same ∙ state.closed k there);
+  none = λ tiling listed. state.none (k / 1) (omega (arith, within, few, same)) (ap (has_bit pending) same ∙ there) tiling (subst (λ l. Contains l tiling) (sym (take_all i mark.tilings.tilings.items all)) listed);
 }
+  where
+    same : k / 1 ≡ k
+    same = div-one k
 
 -- ---- tilings that are used
 
@@ -124,16 +127,16 @@ using-more list E drops weights allowed open_hands first used i asked served was
     default d = get_or_default used i d false long
 
 -- so all that serve one of the hands are used
-pub using-ends : (marks : Marks) (mark : Mark) (left : ℕ) (hands weights allowed : List ℕ) (open_hands : ℕ) (first used : List Bool) (i k : ℕ) → length mark.tilings.tilings.items ≤ i → length hands ≤ 64
-    → AreNoted marks.game.hold left hands weights allowed open_hands (length hands)
+pub using-ends : (marks : Marks) (mark : Mark) (left : ℕ) (hands weights : List ℕ) (size : ℕ) (allowed : List ℕ) (open_hands : ℕ) (first used : List Bool) (i k : ℕ) → length mark.tilings.tilings.items ≤ i → k / size < 64
+    → AreNoted marks.game.hold left hands weights size allowed open_hands (length hands)
     → Using mark.tilings.tilings.items (empty_cells marks.cells) marks.drops weights allowed open_hands first used i → k < length hands
     → IsUsedBy marks left mark.tilings.tilings.items used (get_or hands k 0)
-using-ends marks mark left hands weights allowed open_hands first used i k all few noted state within = record {
+using-ends marks mark left hands weights size allowed open_hands first used i k all few noted state within = record {
   each = λ built j tiling there parts. true_from_ne_false (get_or used j false) (λ unset.
       let none = state.unused j (let low = slice_get_within mark.tilings.tilings.items j tiling there in omega (arith, low, all)) tiling there unset in
-      let allows = noted.each k within (ap (λ n. has_bit n k) none.0 ∙ has_bit-zero k) in
-      none.1 k (omega (arith, within, few))
-      (built-serves (empty_cells marks.cells) marks.drops marks.game.hold left (get_or hands k 0) weights allowed k built tiling parts allows));
+      let allows = noted.each k within (ap (λ n. has_bit n (k / size)) none.0 ∙ has_bit-zero (k / size)) in
+      none.1 (k / size) few
+      (built-serves (empty_cells marks.cells) marks.drops marks.game.hold left (get_or hands k 0) weights allowed (k / size) built tiling parts allows));
 }
 
 pub used-stays : (marks : Marks) (left hand : ℕ) (list : List ListedTiling) (old new : List Bool) → StaysUsed old new → IsUsedBy marks left list old hand → IsUsedBy marks left list new hand
@@ -252,6 +255,51 @@ counts-end left hands counts i all state = record { size = state.size ∙ all; e
 -- a hand has one list of counts
 pub same-counts : (left hand : ℕ) (a b : List ℕ) → HasCounts a left hand → HasCounts b left hand → a ≡ b
 same-counts left hand a b first second = same_number_lists a b (first.size ∙ sym second.size) (λ k low. let few : k < 8 = omega (arith, low, first.size) in first.each k few ∙ sym (second.each k few))
+
+-- ---- the hands of a mark
+
+-- those of the first i hands that have these counts are there
+pub record AreOwn (hands : List ℕ) (counts : List (List ℕ)) (wanted own : List ℕ) (i : ℕ) : Type 0 where
+  pub each : (n : ℕ) → n < i → get_or counts n [] ≡ wanted → has_number own (get_or hands n 0) ≡ true
+
+pub own-starts : (hands : List ℕ) (counts : List (List ℕ)) (wanted own : List ℕ) → AreOwn hands counts wanted own 0
+own-starts hands counts wanted own = record { each = λ n low. absurd (omega arith) }
+
+pub own-more : (hands : List ℕ) (counts : List (List ℕ)) (wanted own : List ℕ) (i : ℕ) → AreOwn hands counts wanted own i → AreOwn hands counts wanted (own ++ get_or hands i 0 ∷ []) (i + 1)
+own-more hands counts wanted own i state = record {
+  each = λ n low is. has-push own (get_or hands i 0) (get_or hands n 0) ∙ elim (cases_lt n i) [
+    | inl before ↦ or_left (has_number own (get_or hands n 0)) (get_or hands i 0 == get_or hands n 0) (state.each n before is)
+    | inr past ↦
+        let same : i ≡ n = omega arith in
+        or_right (has_number own (get_or hands n 0)) (get_or hands i 0 == get_or hands n 0) (eq-eqb (get_or hands i 0) (get_or hands n 0) (ap (λ k. get_or hands k 0) same))
+  ];
+}
+
+pub own-pass : (hands : List ℕ) (counts : List (List ℕ)) (wanted own : List ℕ) (i : ℕ) → (get_or counts i [] ≡ wanted → ⊥) → AreOwn hands counts wanted own i → AreOwn hands counts wanted own (i + 1)
+own-pass hands counts wanted own i other state = record {
+  each = λ n low is. elim (cases_lt n i) [
+    | inl before ↦ state.each n before is
+    | inr past ↦ let same : n ≡ i = omega arith in absurd (other (ap (λ k. get_or counts k []) (sym same) ∙ is))
+  ];
+}
+
+-- the tilings that serve those are used, so are the tilings that serve any of the hands with the pieces of the mark
+pub used-by-own : (marks : Marks) (left : ℕ) (hands own : List ℕ) (counts : List (List ℕ)) (mark : Mark) (used : List Bool) → length used ≡ length mark.tilings.tilings.items → AreCountsOf left hands counts
+    → ((n : ℕ) → n < length hands → get_or counts n [] ≡ mark.counts → has_number own (get_or hands n 0) ≡ true)
+    → ((k : ℕ) → k < length own → IsUsedBy marks left mark.tilings.tilings.items used (get_or own k 0)) → IsUsedByAll marks left hands mark used
+used-by-own marks left hands own counts mark used size are owned is_used = record {
+  size = size;
+  each = λ n within has.
+      let at = number-at own (get_or hands n 0) (owned n within (same-counts left (get_or hands n 0) (get_or counts n []) mark.counts (are.each n within) has)) in
+      subst (IsUsedBy marks left mark.tilings.tilings.items used) at.2 (is_used at.0 at.1);
+}
+
+-- a mark is read at its index
+pub mark-read : (known : List Mark) (index : ℕ) (old : Mark) → index < length known → old ≡ get_or known index old → slice_get known index ≡ Some old
+mark-read known index old within at = slice_get_read known (length known) index old refl within at
+
+pub mark-is : (known : List Mark) (index : ℕ) (old mark : Mark) → old ≡ get_or known index old → slice_get known index ≡ Some mark → old ≡ mark
+mark-is known index old mark at there = at ∙ get_or_from_slice_get known index mark old there
 
 -- ---- the tilings that stay
 

@@ -1,6 +1,7 @@
 -- Hands that are left out are not good, one hand on.
 use Rattle.std.proofs.Common.{ℕ, suc, ◌≡◌, ◌+◌, ◌-◌, ◌/◌, ◌%◌, ◌<◌, ◌≤◌, Bool, true, false, ◌&&◌, ◌||◌, ◌==◌, cond, List, [], ◌∷◌, length, length-set, get_or, take, refl, sym, ap, subst, ◌∙◌, inl, inr, arith, rules}
 use Rattle.std.proofs.Common.{set as list_set, slice_index}
+use Rattle.std.proofs.Math.Bool.{and-false, and-true, or-false, or_assoc}
 use Rattle.std.proofs.Math.Path.{fun_ext}
 use Rattle.std.proofs.lemmas.List.{get_or-set_other}
 use Rattle.std.proofs.lemmas.Grind.{get_or-set_at}
@@ -17,9 +18,9 @@ use Rattle.empty_cells.specs.declared.empties.Empties.{Empties}
 use Rattle.empty_cells.specs.Empties.{all_but, empty_cells}
 use Rattle.empty_cells.proofs.CallerLemmas.{tiling_below}
 use Rattle.hands.specs.declared.hand_set.HandSet.{HandSet}
-use Rattle.hands.specs.HandSets.{has}
+use Rattle.hands.specs.HandSets.{block_count, has}
 use Rattle.hands.specs.Numbers.{has_number}
-use Rattle.hands.proofs.CallerLemmas.{has-all, has-more, has-none, has-there}
+use Rattle.hands.proofs.CallerLemmas.{has-all, has-more, has-none, has-there, none-counted}
 use Rattle.problem.proofs.CallerLemmas.{IsLow}
 use Rattle.percent.specs.declared.game.Game.{Game}
 use Rattle.percent.specs.declared.position.Position.{Position}
@@ -213,3 +214,32 @@ raised xs counts i most within before here code low = search (rules, cases_eq, g
 
 pub raise-more : (a b counts : List ℕ) (i most : ℕ) → i < 8 → Raising a b counts i → get_or a i 0 ≤ most → get_or b i 0 ≤ most → Raising a b (list_set counts i most) (i + 1)
 raise-more a b counts i most low8 state first second = search (rules, length-set, raised)
+
+-- ---- one part of the hands after the other
+
+-- those of the hands that are good are among what fits so far and the rest
+pub record FitsSoFar (good : Game → ℕ → Bool) (hands fit rest : HandSet) : Type 0 where
+  pub each : (game : Game) (hand : ℕ) → ((has fit hand || has rest hand) && good game hand) ≡ (has hands hand && good game hand)
+
+pub parts-start : (good : Game → ℕ → Bool) (hands fit rest : HandSet) → ((hand : ℕ) → has fit hand ≡ false) → ((hand : ℕ) → has rest hand ≡ has hands hand) → FitsSoFar good hands fit rest
+parts-start good hands fit rest none same = record { each = λ game hand i. (none hand i || same hand i) && good game hand }
+
+part_fits : (fit part others more good : Bool) → (more && good) ≡ (part && good) → (((fit || more) || others) && good) ≡ ((fit || (part || others)) && good)
+part_fits fit part others more true same =
+    ap (λ b. b && true) (or_assoc fit more others ∙ ap (λ b. fit || (b || others)) (sym (and-true more) ∙ same ∙ and-true part))
+part_fits fit part others more false same = and-false _ ∙ sym (and-false _)
+
+pub parts-more : (good : Game → ℕ → Bool) (hands fit next rest part others more : HandSet) (numbers : List ℕ) → ((hand : ℕ) → has rest hand ≡ (has part hand || has others hand))
+    → ((hand : ℕ) → has_number numbers hand ≡ has part hand) → ((game : Game) (hand : ℕ) → (has more hand && good game hand) ≡ (has_number numbers hand && good game hand))
+    → ((hand : ℕ) → has next hand ≡ (has fit hand || has more hand)) → FitsSoFar good hands fit rest → FitsSoFar good hands next others
+parts-more good hands fit next rest part others more numbers cut listed fits merged state = record {
+  each = λ game hand.
+      ap (λ b. (b || has others hand) && good game hand) (merged hand)
+      ∙ part_fits (has fit hand) (has part hand) (has others hand) (has more hand) (good game hand) (fits game hand ∙ ap (λ b. b && good game hand) (listed hand))
+      ∙ ap (λ b. (has fit hand || b) && good game hand) (sym (cut hand)) ∙ state.each game hand;
+}
+
+pub parts-end : (good : Game → ℕ → Bool) (hands fit rest : HandSet) → block_count rest ≡ 0 → FitsSoFar good hands fit rest
+    → (game : Game) (hand : ℕ) → (has fit hand && good game hand) ≡ (has hands hand && good game hand)
+parts-end good hands fit rest none state game hand =
+    ap (λ b. b && good game hand) (sym (or-false (has fit hand)) ∙ ap (λ b. has fit hand || b) (sym (none-counted rest none hand))) ∙ state.each game hand

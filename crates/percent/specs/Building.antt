@@ -32,6 +32,12 @@ pub record IsUsedBy (marks : Marks) (left : ℕ) (list : List ListedTiling) (use
       → slice_get list j ≡ Some tiling → All (λ part. HasPiece tiling (laid_part part)) built.tiling.parts
       → slice_index_or used j false ≡ true
 
+-- of the tilings of a mark those are used that serve one of some hands with its pieces
+pub record IsUsedByAll (marks : Marks) (left : ℕ) (hands : List ℕ) (mark : Mark) (used : List Bool) : Type 0 where
+  pub size : length used ≡ length mark.tilings.tilings.items
+  pub each : (n : ℕ) → n < length hands → HasCounts mark.counts left (slice_index hands n)
+      → IsUsedBy marks left mark.tilings.tilings.items used (slice_index hands n)
+
 -- what is used stays so
 pub record StaysUsed (old new : List Bool) : Type 0 where
   pub size : length new ≡ length old

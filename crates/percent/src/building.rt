@@ -125,7 +125,7 @@ impl Marks {
             → IsRefused self.now left mark.now (slice_index hands.now k) }
     {
         let weights = weights_of(&mark.counts);
-        let (allowed, open) = sums_of(self.game.hold, &weights, left, hands);
+        let (allowed, open) = sums_of(self.game.hold, &weights, left, hands, 1);
         let all = lowest(hands.len());
         let mut pending = all ^ (all & open);
         for index in 0..mark.tilings.tilings.len() {
@@ -137,6 +137,32 @@ impl Marks {
             used[index] = or_some(is_used, served);
         }
         pending
+    }
+
+    /// Notes which tilings of a mark may serve some of these hands. One bit stands for all hands of a part of the list, so
+    /// each tiling is looked at once. Some may be noted that serve none.
+    pub fn note_used(&self, mark: &Mark, left: u8, hands: &[u64], used: &mut Vec<bool>)
+        requires left { left ≤ 20 }
+        requires size { length used.old.items ≡ length mark.now.tilings.tilings.items }
+        ensures size { length used.new.items ≡ length mark.now.tilings.tilings.items }
+        ensures used { (k : ℕ) → k < length hands.now
+            → IsUsedBy self.now left mark.now.tilings.tilings.items used.new.items (slice_index hands.now k) }
+    {
+        let weights = weights_of(&mark.counts);
+        let size = hands.len() / 64 + 1;
+        let (allowed, open) = sums_of(self.game.hold, &weights, left, hands, size);
+        for index in 0..mark.tilings.tilings.len() {
+            let tiling = &mark.tilings.tilings[index];
+            let served = served_among(
+                tiling,
+                &self.cells,
+                self.drops,
+                &weights,
+                &allowed,
+                u64::MAX,
+            );
+            used[index] = or_some(or_some(used[index], open), served);
+        }
     }
 
     /// Notes that hands of a block are bad which no tiling of their mark serves, and which tilings serve some of them.

@@ -182,3 +182,31 @@ pub fn fitting(
     }
     Ok(fit)
 }
+
+/// How many blocks of hands are looked at together.
+const PART: usize = 16_384;
+
+/// The same for the hands of a set, without a list of all of them.
+pub fn fitting_in_parts(
+    alloc: Global,
+    fits: &mut FitMemory,
+    position: &Position,
+    left: u8,
+    hands: &HandSet,
+) -> Result<HandSet, NoMemory>
+    requires { left ≤ 20 }
+    ensures { IfOk result (λ fit. (game : Game) (hand : ℕ) →
+        (has fit hand && is_good game (filled position.now.well) position.now.rows left hand)
+        ≡ (has hands.now hand && is_good game (filled position.now.well) position.now.rows left hand)) }
+{
+    let mut fit = HandSet::none(alloc);
+    let mut rest = hands.copied(alloc)?;
+    while rest.block_count() > 0 {
+        let (part, others) = rest.split_at(alloc, PART)?;
+        let numbers = part.numbers(alloc)?;
+        let more = fitting(alloc, fits, position, left, numbers.as_slice())?;
+        fit = fit.merged(alloc, &more)?;
+        rest = others;
+    }
+    Ok(fit)
+}

@@ -1,10 +1,11 @@
 // Leaving out hands that no listed tiling serves, and tilings that serve no hand.
-ghost use Rattle.std.specs.Prelude.{◌≡◌, ◌≤◌, ℕ, IfOk, Some, false, true, length, slice_get, slice_index_or};
+ghost use Rattle.std.specs.Prelude.{◌≡◌, ◌≤◌, ◌<◌, ℕ, [], IfOk, Some, false, true, length, slice_get, slice_index, slice_index_or};
 ghost use Rattle.std.specs.List.{Contains};
+ghost use Rattle.hands.specs.Numbers.{has_number};
 ghost use Rattle.tiled_pieces.specs.declared.listed.ListedTiling.{ListedTiling};
 ghost use Rattle.percent.specs.Building.{AreCountsOf};
 
-use crate::fitting::{Counts, counts_of};
+use crate::fitting::{Counts, are_same, counts_of};
 use crate::marks::Marks;
 use hands::HandSet;
 use hold_queue::Hold;
@@ -24,15 +25,24 @@ fn counts_of_each(alloc: Global, left: u8, hands: &[u64]) -> Result<Vec<Counts>,
     Ok(counts)
 }
 
-/// How many tilings are used.
-fn count_used(used: &[bool]) -> usize {
-    let mut count = 0usize;
-    for is_used in used {
-        if *is_used {
-            count = count.saturating_add(1);
+/// The hands that have these counts.
+fn hands_with(
+    alloc: Global,
+    hands: &[u64],
+    counts: &[Counts],
+    wanted: &Counts,
+) -> Result<Vec<u64>, NoMemory>
+    requires { length counts.now ≡ length hands.now }
+    ensures { IfOk result (λ own. (n : ℕ) → n < length hands.now
+        → slice_index_or counts.now n [] ≡ wanted.now → has_number own.items (slice_index hands.now n) ≡ true) }
+{
+    let mut own = Vec::new(alloc);
+    for index in 0..hands.len() {
+        if are_same(&counts[index], wanted) {
+            own.push(hands[index])?;
         }
     }
-    count
+    Ok(own)
 }
 
 /// The tilings of a list that are used, with room for so many.
@@ -56,16 +66,69 @@ fn used_among(
 }
 
 impl Marks {
-    ghost use Rattle.std.specs.Prelude.{◌<◌, ◌&&◌, OnOk, vec_len};
+    ghost use Rattle.std.specs.Prelude.{◌&&◌, List, OnOk, vec_len};
     ghost use Rattle.well.specs.Well.{filled};
     ghost use Rattle.hands.specs.HandSets.{has};
-    ghost use Rattle.percent.specs.Building.{AllListHands, AreNarrowed, AreTested};
+    ghost use Rattle.percent.specs.declared.marks.Mark.{Mark};
+    ghost use Rattle.percent.specs.Building.{AllListHands, AreNarrowed, AreTested, IsUsedByAll};
     ghost use Rattle.percent.specs.GoodHands.{is_good};
     ghost use Rattle.percent.specs.ListedHands.{AreMarksOf};
 
+    /// Leaves out the tilings of a mark that are not used. All stay if there is not enough memory for a list without
+    /// those.
+    fn keep_used(&mut self, alloc: Global, index: usize, used: &[bool])
+        requires index { index < vec_len self.old.known }
+        requires size { (mark : Mark) → slice_get self.old.known.items index ≡ Some mark
+            → length used.now ≡ length mark.tilings.tilings.items }
+        ensures { (left : ℕ) (hands : List ℕ) → AllListHands self.old left hands
+            → ((mark : Mark) → slice_get self.old.known.items index ≡ Some mark
+            → IsUsedByAll self.old left hands mark used.now)
+            → AreNarrowed self.old self.new left hands }
+    {
+        let mark = &self.known[index];
+        let count = used.iter().filter(|is_used| **is_used).count();
+        if count == used.len() {
+            return;
+        }
+        let kept = used_among(alloc, &mark.tilings, used, count);
+        if let Ok(tilings) = kept {
+            self.known[index].tilings = tilings;
+        }
+    }
+
+    /// Leaves out tilings of one mark that serve no hand, where it has more hands than are tested at once, and so each
+    /// tiling would be looked at for each 64 of them. With hard drops all stay.
+    fn narrow_at_once(
+        &mut self,
+        alloc: Global,
+        index: usize,
+        left: u8,
+        hands: &[u64],
+        counts: &[Counts],
+    ) -> Result<(), NoMemory>
+        requires left { left ≤ 20 }
+        requires index { index < vec_len self.old.known }
+        requires lists { AllListHands self.old left hands.now }
+        requires counts { AreCountsOf left hands.now counts.now }
+        ensures { OnOk result (AreNarrowed self.old self.new left hands.now) }
+    {
+        if self.drops {
+            return Ok(());
+        }
+        let mark = &self.known[index];
+        let own = hands_with(alloc, hands, counts, &mark.counts)?;
+        if own.len() <= 64 {
+            return Ok(());
+        }
+        let mut used = vec![in alloc; false; mark.tilings.tilings.len()]?;
+        self.note_used(mark, left, own.as_slice(), &mut used);
+        self.keep_used(alloc, index, used.as_slice());
+        Ok(())
+    }
+
     /// Notes which hands with the pieces of one mark are bad, and leaves out its tilings that serve none of them. With
-    /// hard drops, where that costs more than it spares, all stay. So they do if there is not enough memory for a list
-    /// without those; `NoMemory` if there is not enough for a flag for each tiling.
+    /// hard drops, where that costs more than it spares, all stay. `NoMemory` if there is not enough for a flag for each
+    /// tiling.
     fn narrow_mark(
         &mut self,
         alloc: Global,
@@ -86,14 +149,7 @@ impl Marks {
         let mark = &self.known[index];
         let mut used = vec![in alloc; self.drops; mark.tilings.tilings.len()]?;
         self.test_mark(mark, left, hands, counts, may, &mut used);
-        let count = count_used(used.as_slice());
-        if count == used.len() {
-            return Ok(());
-        }
-        let kept = used_among(alloc, &mark.tilings, used.as_slice(), count);
-        if let Ok(tilings) = kept {
-            self.known[index].tilings = tilings;
-        }
+        self.keep_used(alloc, index, used.as_slice());
         Ok(())
     }
 
@@ -108,6 +164,7 @@ impl Marks {
         let counts = counts_of_each(alloc, left, hands)?;
         let mut may = vec![in alloc; true; hands.len()]?;
         for index in 0..self.known.len() {
+            self.narrow_at_once(alloc, index, left, hands, counts.as_slice())?;
             self.narrow_mark(alloc, index, left, hands, counts.as_slice(), &mut may)?;
         }
         Ok(may)
@@ -121,7 +178,7 @@ impl Marks {
         }
         match (self.drops, self.game.hold) {
             (true, _) => (4..=8).contains(&left),
-            (false, Hold::Avoided) => left == 7,
+            (false, Hold::Avoided) => left == 8,
             (false, Hold::Allowed) => false,
         }
     }

@@ -9,7 +9,7 @@ ghost use Rattle.percent.specs.Good.{Good};
 ghost use Rattle.percent.specs.GoodHands.{game_of, hand_at, is_good};
 
 use crate::answered::answered_first;
-use crate::fitting::fitting;
+use crate::fitting::fitting_in_parts;
 use crate::game::Game;
 use crate::kept::Kept;
 use crate::position::Position;
@@ -72,9 +72,7 @@ pub fn good_hands<L: Ledger>(
     };
     let mut kept = Kept::new(alloc, game, room_for(hands.block_count(), left));
     let position = first_position(problem);
-    let numbers = hands.numbers(alloc)?;
-    let fit = fitting(alloc, &mut kept.fits, &position, left, numbers.as_slice())?;
-    drop(numbers);
+    let fit = fitting_in_parts(alloc, &mut kept.fits, &position, left, hands)?;
     answered_first(alloc, &mut kept, &position, left, &fit, steps)
 }
 

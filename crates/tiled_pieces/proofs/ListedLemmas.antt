@@ -1,7 +1,7 @@
 -- Listed tilings, and lists of them.
-use Rattle.std.proofs.Common.{◌≡◌, ◌↔◌, ℕ, ◌+◌, ◌<◌, ◌≤◌, Bool, true, false, ◌&&◌, ◌==◌, List, [], ◌∷◌, ◌++◌, length, get_or, take, refl, sym, ap, subst, ◌∙◌, inl, inr, arith, rules}
+use Rattle.std.proofs.Common.{◌≡◌, ◌↔◌, ℕ, ◌+◌, ◌<◌, ◌≤◌, Bool, true, false, List, [], ◌∷◌, ◌++◌, length, get_or, take, refl, sym, ap, subst, ◌∙◌, inl, inr, arith, rules}
 use Rattle.std.specs.List.{Contains}
-use Rattle.std.proofs.lemmas.Bool.{and_parts, and_from, eqb-true, eq-eqb, cases_eq, false≢true}
+use Rattle.std.proofs.lemmas.Bool.{cases_eq, false≢true}
 use Rattle.std.proofs.lemmas.List.{get_or-map, take_all, take_more}
 use Rattle.std.proofs.lemmas.List.Elements.{Contains-append_left, Contains-push, Contains-push_cases}
 use Rattle.lane_board.specs.Field.{Field}
@@ -14,12 +14,17 @@ use Rattle.empty_cells.specs.Empties.{empty_cells}
 use Rattle.tiled_pieces.specs.declared.listed.ListedTiling.{ListedTiling}
 use Rattle.tiled_pieces.specs.TilingLists.{HasPiece, LaidPiece, SomeHas, laid_at, most_pieces}
 
--- the piece at an index is this one exactly where the kind and the cells are these
-pub laid_is : (tiling : ListedTiling) (index : ℕ) (e : Empties) (piece kind : Piece) (cells : Field) (same equal : Bool) → index < length tiling.cells → kind ≡ get_or tiling.kinds index I →
-    ((equal ≡ true) ↔ (empty_cells (get_or tiling.cells index e) ≡ cells)) → same ≡ (equal && (piece_code kind == piece_code piece)) → (same ≡ true) ↔ (laid_at tiling index ≡ record { piece = piece; cells = cells })
+-- where the kind is this one, the piece at an index is this one exactly if the cells are these
+pub laid_same : (tiling : ListedTiling) (index : ℕ) (e : Empties) (piece : Piece) (cells : Field) (equal : Bool) → index < length tiling.cells → piece_code (get_or tiling.kinds index I) ≡ piece_code piece
+    → ((equal ≡ true) ↔ (empty_cells (get_or tiling.cells index e) ≡ cells)) → (equal ≡ true) ↔ (laid_at tiling index ≡ record { piece = piece; cells = cells })
 unfolding laid_at
-laid_is tiling index e piece kind cells same equal known kind_at both is =
-    search (rules, and_parts, piece_code-injective, eqb-true, and_from, eq-eqb, get_or-map)
+laid_same tiling index e piece cells equal known kind both = search (rules, piece_code-injective, get_or-map)
+
+-- where the kind is another, so is the piece
+pub laid_other : (tiling : ListedTiling) (index : ℕ) (piece : Piece) (cells : Field) (same : Bool) → (piece_code (get_or tiling.kinds index I) ≡ piece_code piece → ⊥) → same ≡ false
+    → (same ≡ true) ↔ (laid_at tiling index ≡ record { piece = piece; cells = cells })
+unfolding laid_at
+laid_other tiling index piece cells same other is = search rules
 
 pub laid_kind : (tiling : ListedTiling) (index : ℕ) → (laid_at tiling index).piece ≡ get_or tiling.kinds index I
 unfolding laid_at

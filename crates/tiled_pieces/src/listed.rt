@@ -60,6 +60,6 @@ impl ListedTiling {
         ensures { IsTrue result
             ↔ (laid_at self.now index ≡ record { piece = piece; cells = empty_cells cells.now }) }
     {
-        self.cells[index].is_equal(cells) && self.kinds[index].code() == piece.code()
+        self.kinds[index].code() == piece.code() && self.cells[index].is_equal(cells)
     }
 }

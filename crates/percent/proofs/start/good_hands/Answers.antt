@@ -2,7 +2,6 @@
 use Rattle.std.proofs.Common.{◌&&◌, ap, ◌∙◌, ◌%◌}
 use Rattle.well.specs.Well.{filled}
 use Rattle.hands.specs.HandSets.{has}
-use Rattle.hands.specs.Numbers.{has_number}
 use Rattle.percent.specs.GoodHands.{is_good}
 use Rattle.percent.proofs.AnswerLemmas.{uneven-answer}
 use Rattle.std.proofs.lemmas.Result.{IfOk-weaker}
@@ -20,8 +19,7 @@ returns-clause-members g c =
     IfOk-weaker c.answered_first.result _ _
     (λ v h hand.
     h hand
-    ∙ c.in_ok-fit.ensures.good kept.game hand
-    ∙ ap (λ b. b && is_good kept.game (filled p.well) p.rows c.needed-left.result hand) (ap (λ l. has_number l hand) c.as_slice.ensures.value ∙ c.in_ok-numbers.ensures hand)
+    ∙ c.in_ok-fit.ensures kept.game hand
     ∙ (λ i. has c.args.hands.now hand
     && is_good (c.new-kept.ensures i) (filled (c.first_position-position.ensures.well i)) (c.first_position-position.ensures.rows i) (c.needed-left.ensures i) hand))
     c.answered_first.ensures.members

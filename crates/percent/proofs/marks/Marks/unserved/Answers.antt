@@ -1,5 +1,6 @@
 -- One tiling more.
 use Rattle.std.proofs.Common.{◌<◌, length, arith}
+use Rattle.std.proofs.lemmas.Nat.{div_below}
 use Rattle.lane_board.specs.Field.{Field}
 use Rattle.empty_cells.specs.Empties.{empty_cells}
 use Rattle.percent.proofs.BuildingLemmas.{pending-ends, pending-more, pending-starts, using-ends, using-more, using-starts}
@@ -34,8 +35,8 @@ returns-clause-stays c = c.loop-index.invariant.1.stays
 pub returns-clause-used : goal.returns-clause-used
 returns-clause-used c = λ k within.
     let size = c.args.mark.now.tilings.tilings.ok in
-    using-ends c.args.self.now c.args.mark.now c.args.left c.args.hands.now c.weights_of-weights.result c.sums_of-open.result.0 c.sums_of-open.result.1 c.args.used.now.items c.loop-index.used.items c.loop-index.index k
-    (omega (arith, c.loop-index-test.false, size)) c.requires.hands c.sums_of-open.ensures c.loop-index.invariant.1 within
+    using-ends c.args.self.now c.args.mark.now c.args.left c.args.hands.now c.weights_of-weights.result 1 c.sums_of-open.result.0 c.sums_of-open.result.1 c.args.used.now.items c.loop-index.used.items c.loop-index.index k
+    (omega (arith, c.loop-index-test.false, size)) (div_below k 1 64 (omega arith) (omega (arith, within, c.requires.hands))) c.sums_of-open.ensures c.loop-index.invariant.1 within
 
 pub returns-clause-unserved : goal.returns-clause-unserved
 returns-clause-unserved c = λ k within there.
