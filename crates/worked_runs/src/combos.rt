@@ -1,5 +1,6 @@
 // Runs of `combo`: the longest run of placements that each remove a row.
-use run_outcomes::asserts::{Case, TextCase, lists_all, refuses_all, writes_all};
+use crate::whole::runs;
+use run_outcomes::asserts::{Case, TextCase};
 use std::test::Fail;
 
 const ONE_ROW: &str = "combo --rows XXXXXX____ --patterns";
@@ -35,7 +36,7 @@ const SHORT_RUNS: &[Case] = &[
 
 #[test]
 fn short_runs(rt: HostRuntime) -> Result<(), Fail> {
-    lists_all(&rt, SHORT_RUNS)
+    runs(rt.alloc()).lists_all(SHORT_RUNS)
 }
 
 const UNDER_THE_EDGE: &str = "combo --rows XXXXXXXXX_/XXXXXXX___ --patterns L";
@@ -67,7 +68,7 @@ const RUNS_WITH_OPTIONS: &[Case] = &[
 
 #[test]
 fn runs_with_options(rt: HostRuntime) -> Result<(), Fail> {
-    lists_all(&rt, RUNS_WITH_OPTIONS)
+    runs(rt.alloc()).lists_all(RUNS_WITH_OPTIONS)
 }
 
 const QUEUE: &str = "TIOSZJLLJSZOITJZSTILOZ";
@@ -97,7 +98,7 @@ const LONG_RUNS: &[Case] = &[
 
 #[test]
 fn long_runs(rt: HostRuntime) -> Result<(), Fail> {
-    lists_all(&rt, LONG_RUNS)
+    runs(rt.alloc()).lists_all(LONG_RUNS)
 }
 
 const FIELDS_OF_SOURCES: &[TextCase] = &[
@@ -115,7 +116,7 @@ const FIELDS_OF_SOURCES: &[TextCase] = &[
 
 #[test]
 fn the_field_of_a_source(rt: HostRuntime) -> Result<(), Fail> {
-    writes_all(&rt, FIELDS_OF_SOURCES)
+    runs(rt.alloc()).writes_all(FIELDS_OF_SOURCES)
 }
 
 const FAULTS: &[Case] = &[
@@ -153,5 +154,5 @@ const FAULTS: &[Case] = &[
 
 #[test]
 fn faults(rt: HostRuntime) -> Result<(), Fail> {
-    refuses_all(&rt, FAULTS)
+    runs(rt.alloc()).refuses_all(FAULTS)
 }

@@ -1,7 +1,6 @@
 // Runs of `cover`: which queues given sequences cover.
-use run_outcomes::asserts::{
-    TextCase, ends_with, lists, over, refused, refuses_all_texts, writes, writes_all,
-};
+use crate::whole::runs;
+use run_outcomes::asserts::TextCase;
 use std::test::Fail;
 
 const ONE_ROW: &str = "cover --rows XXXXXX____ --clear-line 1 --patterns *p2";
@@ -44,7 +43,7 @@ const COVERED: &[TextCase] = &[
 
 #[test]
 fn queues_that_sequences_cover(rt: HostRuntime) -> Result<(), Fail> {
-    writes_all(&rt, COVERED)
+    runs(rt.alloc()).writes_all(COVERED)
 }
 
 const NO_SEQUENCES: &[TextCase] = &[
@@ -62,7 +61,7 @@ const NO_SEQUENCES: &[TextCase] = &[
 
 #[test]
 fn lines_that_are_no_sequences(rt: HostRuntime) -> Result<(), Fail> {
-    refuses_all_texts(&rt, NO_SEQUENCES)
+    runs(rt.alloc()).refuses_all_texts(NO_SEQUENCES)
 }
 
 const FAULTS_OF_FIELDS: &[TextCase] = &[
@@ -90,7 +89,7 @@ const FAULTS_OF_FIELDS: &[TextCase] = &[
 
 #[test]
 fn faults_of_the_field_come_first(rt: HostRuntime) -> Result<(), Fail> {
-    refuses_all_texts(&rt, FAULTS_OF_FIELDS)
+    runs(rt.alloc()).refuses_all_texts(FAULTS_OF_FIELDS)
 }
 
 /// Further words of `path`, `cover` and `percent`, and the numbers of both reports.
@@ -113,9 +112,9 @@ const PIPED: &[(&[&str], &[u8])] = &[
 #[test]
 fn all_solutions_of_the_opener(rt: HostRuntime) -> Result<(), Fail> {
     for (more, numbers) in PIPED {
-        let listed = over(&rt, "path", more, b"")?;
-        ends_with(&rt, "cover", more, listed.out.bytes(), numbers)?;
-        lists(&rt, "percent", more, numbers)?;
+        let listed = runs(rt.alloc()).over("path", more, b"")?;
+        runs(rt.alloc()).ends_with("cover", more, listed.out.bytes(), numbers)?;
+        runs(rt.alloc()).lists("percent", more, numbers)?;
     }
     Ok(())
 }
@@ -124,7 +123,7 @@ fn all_solutions_of_the_opener(rt: HostRuntime) -> Result<(), Fail> {
 fn a_hundred_thousand_sequences(rt: HostRuntime) -> Result<(), Fail> {
     let more = b"I0:7,0\n".repeat(rt.alloc(), 100_001)?;
     let most = &more[..more.len() - 7];
-    writes(&rt, ONE_ROW, most, ALL_WITH_I)?;
+    runs(rt.alloc()).writes(ONE_ROW, most, ALL_WITH_I)?;
     let fault = b"input: Cover.TooManySequences 100001\n";
-    refused(&rt, ONE_ROW, &[], &more, fault)
+    runs(rt.alloc()).refused(ONE_ROW, &[], &more, fault)
 }

@@ -1,7 +1,8 @@
 // The failed queues of `percent` beside what `path` finds for each queue alone.
+use crate::whole::runs;
 use pc_outside::NoMemory;
 use queue_pattern::{Pattern, Queue};
-use run_outcomes::asserts::{is_so, lists, over};
+use run_outcomes::asserts::is_so;
 use std::alloc::Global;
 use std::test::Fail;
 
@@ -69,7 +70,7 @@ fn letters(alloc: Global, queue: &Queue) -> Result<String, NoMemory> {
 /// Whether `path` finds a solution for a queue alone.
 fn has_path(rt: &impl AllocGlobal, words: &str, queue: &str) -> Result<bool, Fail> {
     let line = format!(in rt.alloc(); "path {words} --limit 1 --patterns {queue}")?;
-    let ended = over(rt, &line, &[], b"")?;
+    let ended = runs(rt.alloc()).over(&line, &[], b"")?;
     is_so(ended.status.code() == 0, &line)?;
     Ok(ended.out.bytes() != b"end 0\n".as_slice())
 }
@@ -97,7 +98,7 @@ fn failed_queues_have_no_path(rt: HostRuntime) -> Result<(), Fail> {
         let failed = failed_lines(&rt, &words, &queues)?;
         let line = format!(in rt.alloc(); "percent {words} --failed 50 --patterns {pattern}")?;
         let report = format!(in rt.alloc(); "{failed}{numbers}")?;
-        lists(&rt, &line, &[], report.as_bytes())?;
+        runs(rt.alloc()).lists(&line, &[], report.as_bytes())?;
     }
     Ok(())
 }

@@ -1,8 +1,7 @@
 // Runs of `path` whose field is a page of a fumen text.
+use crate::whole::runs;
 use pc_outside::Source;
-use run_outcomes::asserts::{
-    Case, TextCase, ends, ends_with, is_so, lists, over, refused, refuses_all, writes_all,
-};
+use run_outcomes::asserts::{Case, TextCase, is_so};
 use std::test::Fail;
 
 /// The words of a line, a page as a text that follows them, and what their run writes.
@@ -42,8 +41,8 @@ const PAGES: &[PageCase] = &[
 /// Asserts what each case writes, once with the text in the words and once with the text in the source.
 fn shows_all(rt: &impl AllocGlobal, cases: &[PageCase]) -> Result<(), Fail> {
     for (line, text, output) in cases {
-        lists(rt, line, &[text], output)?;
-        ends(rt, (line, &["-"], text.as_bytes()), (0, output, b""))?;
+        runs(rt.alloc()).lists(line, &[text], output)?;
+        runs(rt.alloc()).ends((line, &["-"], text.as_bytes()), (0, output, b""))?;
     }
     Ok(())
 }
@@ -70,14 +69,14 @@ const BESIDE_PAGES: &[TextCase] = &[
 
 #[test]
 fn rows_beside_pages(rt: HostRuntime) -> Result<(), Fail> {
-    writes_all(&rt, BESIDE_PAGES)
+    runs(rt.alloc()).writes_all(BESIDE_PAGES)
 }
 
 #[test]
 fn rows_and_pages_agree(rt: HostRuntime) -> Result<(), Fail> {
     let rows = "path --patterns *p4 --rows XXXX____XX/XXXX___XXX/XXXX__XXXX/XXXX___XXX";
-    ends_with(&rt, rows, &[], b"", b"\nend 39\n")?;
-    let listed = over(&rt, rows, &[], b"")?;
+    runs(rt.alloc()).ends_with(rows, &[], b"", b"\nend 39\n")?;
+    let listed = runs(rt.alloc()).over(rows, &[], b"")?;
     let text = "v115@9gD8DeF8CeG8BeH8CeC8JeAgH";
     let line = "path --patterns *p4 --tetfu";
     shows_all(&rt, &[(line, text, listed.out.bytes())])
@@ -115,8 +114,8 @@ const FAULTS_OF_PAGES: &[PageCase] = &[
 #[test]
 fn faults_of_pages(rt: HostRuntime) -> Result<(), Fail> {
     for (line, text, fault) in FAULTS_OF_PAGES {
-        refused(&rt, line, &[text], b"", fault)?;
-        refused(&rt, line, &["-"], text.as_bytes(), fault)?;
+        runs(rt.alloc()).refused(line, &[text], b"", fault)?;
+        runs(rt.alloc()).refused(line, &["-"], text.as_bytes(), fault)?;
     }
     Ok(())
 }
@@ -131,7 +130,7 @@ const UNREAD: &[&str] = &[
 
 /// Whether a run of these words leaves its source unread.
 fn is_unread(rt: &impl AllocGlobal, line: &str) -> Result<bool, Fail> {
-    let mut run = over(rt, line, &[], b"hello")?;
+    let mut run = runs(rt.alloc()).over(line, &[], b"hello")?;
     let mut rest = [0; 8];
     let read = run.source.read(&mut rest);
     Ok(read == Ok(5) && rest.starts_with(b"hello"))
@@ -173,5 +172,5 @@ const FAULTS_OF_WORDS: &[Case] = &[
 
 #[test]
 fn words_of_the_field(rt: HostRuntime) -> Result<(), Fail> {
-    refuses_all(&rt, FAULTS_OF_WORDS)
+    runs(rt.alloc()).refuses_all(FAULTS_OF_WORDS)
 }

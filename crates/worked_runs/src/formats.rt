@@ -1,5 +1,6 @@
 // Solutions as fumen texts and as grids.
-use run_outcomes::asserts::{Case, ends_with, is_so, lists_all, newlines, over, refused, writes};
+use crate::whole::runs;
+use run_outcomes::asserts::{Case, is_so, newlines};
 use std::test::Fail;
 
 const ONE: &str = "path --rows XXXXXX____ --clear-line 1 --patterns I --hold avoid --format";
@@ -49,16 +50,16 @@ const FORMS: &[Case] = &[
 
 #[test]
 fn solutions_in_each_form(rt: HostRuntime) -> Result<(), Fail> {
-    lists_all(&rt, FORMS)?;
+    runs(rt.alloc()).lists_all(FORMS)?;
     let fumen = b"v115@RhF8DeF8NeSSYFAyrhqCoAAAAvhAisQGAyr53Bj8AA?A";
     let keyed = b"XXXXXX____/XXXXXX____| L0:8,0 --cl #RRRRH\n\
         XXXXXX___L/XXXXXX_LLL| L2:7,1 ---l #RRRCCH\n";
-    writes(&rt, "decode", fumen, keyed)
+    runs(rt.alloc()).writes("decode", fumen, keyed)
 }
 
 #[test]
 fn what_is_no_form(rt: HostRuntime) -> Result<(), Fail> {
-    refused(&rt, ONE, &["Grid"], b"", b"input: Words.BadValue 10\n")
+    runs(rt.alloc()).refused(ONE, &["Grid"], b"", b"input: Words.BadValue 10\n")
 }
 
 fn fumen_lines(bytes: &[u8]) -> usize {
@@ -70,8 +71,8 @@ fn fumen_lines(bytes: &[u8]) -> usize {
 
 /// Whether both commands read a fumen of three pages.
 fn is_read(rt: &impl AllocGlobal, fumen: &[u8]) -> Result<bool, Fail> {
-    let decoded = over(rt, "decode", &[], fumen)?;
-    let shown = over(rt, "show", &[], fumen)?;
+    let decoded = runs(rt.alloc()).over("decode", &[], fumen)?;
+    let shown = runs(rt.alloc()).over("show", &[], fumen)?;
     Ok(
         decoded.status.code() == 0
             && newlines(decoded.out.bytes()) == 3
@@ -93,8 +94,8 @@ fn are_read(rt: &impl AllocGlobal, report: &[u8]) -> Result<(), Fail> {
 #[test]
 fn each_fumen_is_read(rt: HostRuntime) -> Result<(), Fail> {
     let opener = "path --tetfu v115@9gD8DeF8CeG8BeH8CeC8JeAgH --patterns *p4 --format fumen";
-    ends_with(&rt, opener, &[], b"", b"\nend 39\n")?;
-    let listed = over(&rt, opener, &[], b"")?;
+    runs(rt.alloc()).ends_with(opener, &[], b"", b"\nend 39\n")?;
+    let listed = runs(rt.alloc()).over(opener, &[], b"")?;
     let report = listed.out.bytes();
     is_so(
         newlines(report) == 40 && fumen_lines(report) == 39,

@@ -1,5 +1,6 @@
 // A piece that is held at the start, and up to eight rows.
-use run_outcomes::asserts::{Case, lists_all, refuses_all};
+use crate::whole::runs;
+use run_outcomes::asserts::Case;
 use std::test::Fail;
 
 const ONE_ROW: &str = "path --rows XXXXXX____ --clear-line 1 --patterns";
@@ -67,7 +68,7 @@ const HELD_PIECES: &[Case] = &[
 
 #[test]
 fn a_held_piece_is_played(rt: HostRuntime) -> Result<(), Fail> {
-    lists_all(&rt, HELD_PIECES)
+    runs(rt.alloc()).lists_all(HELD_PIECES)
 }
 
 const COLUMN: &str =
@@ -98,7 +99,7 @@ const EIGHT_ROWS: &[Case] = &[
 
 #[test]
 fn eight_rows(rt: HostRuntime) -> Result<(), Fail> {
-    lists_all(&rt, EIGHT_ROWS)
+    runs(rt.alloc()).lists_all(EIGHT_ROWS)
 }
 
 const FAULTS: &[Case] = &[
@@ -141,5 +142,5 @@ const FAULTS: &[Case] = &[
 
 #[test]
 fn faults_of_held_pieces_and_heights(rt: HostRuntime) -> Result<(), Fail> {
-    refuses_all(&rt, FAULTS)
+    runs(rt.alloc()).refuses_all(FAULTS)
 }

@@ -1,8 +1,9 @@
 // A sink that has failed is left alone. A sink that counts more than its failures is written to like any other.
 ghost use Rattle.std.specs.Prelude.{None};
 
+use crate::whole::runs;
 use pc_outside::{Failed, MemorySink, MemorySource, NoMemory, Sink};
-use run_outcomes::{counted, words_of};
+use run_outcomes::words_of;
 use std::alloc::Global;
 use std::marker::Brand;
 use std::process::Abort;
@@ -56,8 +57,7 @@ fn worn_run(
         faults: 0,
     };
     let mut err = MemorySink::new(alloc, 1_000, Vec::new(alloc))?;
-    let status = counted::<Brand, Worn>(
-        alloc,
+    let status = runs(alloc).counted::<Brand, Worn>(
         Blank::new(1),
         words,
         &mut source,

@@ -27,3 +27,5 @@ mod ranges;
 mod solutions;
 #[cfg(test)]
 mod stats;
+#[cfg(test)]
+mod whole;

@@ -1,5 +1,6 @@
 // Long lists: their limit, and resuming after a sequence.
-use run_outcomes::asserts::{ends_with, is_so, newlines, over};
+use crate::whole::runs;
+use run_outcomes::asserts::{is_so, newlines};
 use std::test::Fail;
 
 const SQUARES: &str = "path --rows  --clear-line 2 --patterns OOOOO --hold avoid";
@@ -43,13 +44,13 @@ const LONG_LISTS: &[(&str, &[&str], usize, &[u8], &[u8])] = &[
 #[test]
 fn long_lists(rt: HostRuntime) -> Result<(), Fail> {
     for (line, more, number, first, last) in LONG_LISTS {
-        let listed = over(&rt, line, more, b"")?;
+        let listed = runs(rt.alloc()).over(line, more, b"")?;
         let report = listed.out.bytes();
         is_so(
             newlines(report) == *number && report.starts_with(first),
             line,
         )?;
-        ends_with(&rt, line, more, b"", last)?;
+        runs(rt.alloc()).ends_with(line, more, b"", last)?;
     }
     Ok(())
 }

@@ -1,7 +1,6 @@
 // Runs of `percent`: how many queues have a perfect clear, and which have none.
-use run_outcomes::asserts::{
-    Case, TextCase, ends_with, is_so, lists_all, newlines, over, refuses_all_texts, writes_all,
-};
+use crate::whole::runs;
+use run_outcomes::asserts::{Case, TextCase, is_so, newlines};
 use std::test::Fail;
 
 const ONE_ROW: &str = "percent --rows XXXXXX____ --clear-line 1 --patterns";
@@ -46,15 +45,15 @@ const FEW_ROWS: &[Case] = &[
 
 #[test]
 fn few_rows(rt: HostRuntime) -> Result<(), Fail> {
-    lists_all(&rt, FEW_ROWS)
+    runs(rt.alloc()).lists_all(FEW_ROWS)
 }
 
 #[test]
 fn all_failed_queues(rt: HostRuntime) -> Result<(), Fail> {
     let all = ["*p2", "--failed", "10000000"];
     let tail = b"\nfailed SJ\nqueues 42\ngood 12\nrate 2857\n";
-    ends_with(&rt, ONE_ROW, &all, b"", tail)?;
-    let run = over(&rt, ONE_ROW, &all, b"")?;
+    runs(rt.alloc()).ends_with(ONE_ROW, &all, b"", tail)?;
+    let run = runs(rt.alloc()).over(ONE_ROW, &all, b"")?;
     is_so(newlines(run.out.bytes()) == 33, "33 lines")
 }
 
@@ -95,7 +94,7 @@ const FOUR_ROWS: &[TextCase] = &[
 
 #[test]
 fn four_rows(rt: HostRuntime) -> Result<(), Fail> {
-    writes_all(&rt, FOUR_ROWS)
+    runs(rt.alloc()).writes_all(FOUR_ROWS)
 }
 
 const SIX_COLUMNS: &str =
@@ -112,7 +111,7 @@ const SIX_COLUMNS_OPEN: &[Case] = &[
 
 #[test]
 fn six_columns_open(rt: HostRuntime) -> Result<(), Fail> {
-    lists_all(&rt, SIX_COLUMNS_OPEN)
+    runs(rt.alloc()).lists_all(SIX_COLUMNS_OPEN)
 }
 
 const FAULTS: &[TextCase] = &[
@@ -158,5 +157,5 @@ const FAULTS: &[TextCase] = &[
 
 #[test]
 fn faults_of_percent(rt: HostRuntime) -> Result<(), Fail> {
-    refuses_all_texts(&rt, FAULTS)
+    runs(rt.alloc()).refuses_all_texts(FAULTS)
 }

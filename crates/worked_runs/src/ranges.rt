@@ -1,7 +1,6 @@
 // Values at the ends of their ranges: heights, limits, comments, actions, and lines of digits.
-use run_outcomes::asserts::{
-    Case, TextCase, ends_with, is_so, lists, lists_all, over, refuses_all_texts, writes, writes_all,
-};
+use crate::whole::runs;
+use run_outcomes::asserts::{Case, TextCase, is_so};
 use std::test::Fail;
 
 const SQUARES: &str = "path --patterns OOOO";
@@ -87,7 +86,7 @@ const HEIGHTS: &[Case] = &[
 
 #[test]
 fn each_height(rt: HostRuntime) -> Result<(), Fail> {
-    lists_all(&rt, HEIGHTS)
+    runs(rt.alloc()).lists_all(HEIGHTS)
 }
 
 const FIVE_SQUARES: &str = "path --rows  --clear-line 2 --patterns OOOOO --hold";
@@ -126,9 +125,9 @@ const SAME_LISTS: &[(&[&str], &[&str], &[u8])] = &[
 #[test]
 fn five_squares_with_hold(rt: HostRuntime) -> Result<(), Fail> {
     for (without, with, tail) in SAME_LISTS {
-        ends_with(&rt, FIVE_SQUARES, without, b"", tail)?;
-        let avoided = over(&rt, FIVE_SQUARES, without, b"")?;
-        lists(&rt, FIVE_SQUARES, with, avoided.out.bytes())?;
+        runs(rt.alloc()).ends_with(FIVE_SQUARES, without, b"", tail)?;
+        let avoided = runs(rt.alloc()).over(FIVE_SQUARES, without, b"")?;
+        runs(rt.alloc()).lists(FIVE_SQUARES, with, avoided.out.bytes())?;
     }
     Ok(())
 }
@@ -178,7 +177,7 @@ const TEXTS_BOTH_WAYS: &[TextCase] = &[
 
 #[test]
 fn comments_and_garbage_both_ways(rt: HostRuntime) -> Result<(), Fail> {
-    writes_all(&rt, TEXTS_BOTH_WAYS)
+    runs(rt.alloc()).writes_all(TEXTS_BOTH_WAYS)
 }
 
 /// The line of a page with a comment of this many letters.
@@ -194,7 +193,7 @@ fn commented(rt: &impl AllocGlobal, letters: usize) -> Result<Vec<u8>, Fail> {
 #[test]
 fn the_longest_comment_both_ways(rt: HostRuntime) -> Result<(), Fail> {
     let line = commented(&rt, 4095)?;
-    let encoded = over(&rt, "encode", &[], &line)?;
+    let encoded = runs(rt.alloc()).over("encode", &[], &line)?;
     let text = encoded.out.bytes();
     // Three digits for the cells, three for the action, two for the length, and five for each four letters.
     let digits = text.iter().filter(|byte| **byte != b'?').count();
@@ -202,7 +201,7 @@ fn the_longest_comment_both_ways(rt: HostRuntime) -> Result<(), Fail> {
         encoded.status.code() == 0 && digits == b"v115@\n".len() + 8 + 5 * 1024,
         "all digits",
     )?;
-    writes(&rt, "decode", text, &line)
+    runs(rt.alloc()).writes("decode", text, &line)
 }
 
 /// 245,760 in digits of base 64, lowest first, and the number before it.
@@ -213,5 +212,5 @@ const LARGE_ACTIONS: &[TextCase] = &[
 
 #[test]
 fn the_least_action_that_is_too_large(rt: HostRuntime) -> Result<(), Fail> {
-    refuses_all_texts(&rt, LARGE_ACTIONS)
+    runs(rt.alloc()).refuses_all_texts(LARGE_ACTIONS)
 }

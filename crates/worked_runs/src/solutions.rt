@@ -1,5 +1,6 @@
 // Runs that end, with the sequences that they list.
-use run_outcomes::asserts::{Case, lists_all};
+use crate::whole::runs;
+use run_outcomes::asserts::Case;
 use std::test::Fail;
 
 const ONE_ROW: &str = "path --rows XXXXXX____ --clear-line 1 --patterns";
@@ -38,7 +39,7 @@ const SOLUTIONS: &[Case] = &[
 
 #[test]
 fn one_piece_and_two(rt: HostRuntime) -> Result<(), Fail> {
-    lists_all(&rt, SOLUTIONS)
+    runs(rt.alloc()).lists_all(SOLUTIONS)
 }
 
 const OVERHANG: &str =
@@ -62,7 +63,7 @@ const PLAYS: &[Case] = &[
 
 #[test]
 fn held_pieces_and_hard_drops(rt: HostRuntime) -> Result<(), Fail> {
-    lists_all(&rt, PLAYS)
+    runs(rt.alloc()).lists_all(PLAYS)
 }
 
 const ONE_ROW_KEYED: &str =
@@ -92,5 +93,5 @@ const RUNS_WITH_KEYS: &[Case] = &[
 
 #[test]
 fn runs_with_keys(rt: HostRuntime) -> Result<(), Fail> {
-    lists_all(&rt, RUNS_WITH_KEYS)
+    runs(rt.alloc()).lists_all(RUNS_WITH_KEYS)
 }

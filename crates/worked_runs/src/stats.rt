@@ -1,5 +1,6 @@
 // Runs of `path` with the number of floods after the report.
-use run_outcomes::asserts::{Case, ends_with, lists_all};
+use crate::whole::runs;
+use run_outcomes::asserts::Case;
 use std::test::Fail;
 
 const ONE_ROW: &str = "path --clear-line 1 --patterns I --stats yes --rows";
@@ -25,13 +26,13 @@ const FEW_FLOODS: &[Case] = &[
 
 #[test]
 fn few_floods(rt: HostRuntime) -> Result<(), Fail> {
-    lists_all(&rt, FEW_FLOODS)
+    runs(rt.alloc()).lists_all(FEW_FLOODS)
 }
 
 /// Asserts the last lines of each report.
 fn ends_with_all(rt: &impl AllocGlobal, cases: &[Case]) -> Result<(), Fail> {
     for (line, more, tail) in cases {
-        ends_with(rt, line, more, b"", tail)?;
+        runs(rt.alloc()).ends_with(line, more, b"", tail)?;
     }
     Ok(())
 }

@@ -1,7 +1,7 @@
 // Fumen texts that are cut at each digit, and lists of the most pages that may be read.
 use crate::tables::{repeated, succeeds};
+use crate::whole::runs;
 use pc_outside::NoMemory;
-use run_outcomes::asserts::{refused, writes};
 use std::alloc::Global;
 use std::test::Fail;
 
@@ -70,8 +70,8 @@ fn ends_at<'a>(steps: &[Step<'a>], count: usize) -> Ends<'a> {
 fn decode_ends(rt: &impl AllocGlobal, digits: &[u8], ends: Ends<'_>) -> Result<(), Fail> {
     let text = repeated(rt.alloc(), b"v115@", digits, 1, b"")?;
     match ends {
-        Ends::Lines(lines) => writes(rt, "decode", &text, lines),
-        Ends::Fault(line) => refused(rt, "decode", &[], &text, line),
+        Ends::Lines(lines) => runs(rt.alloc()).writes("decode", &text, lines),
+        Ends::Fault(line) => runs(rt.alloc()).refused("decode", &[], &text, line),
     }
 }
 
@@ -130,7 +130,7 @@ fn unchanged_pages(rt: HostRuntime) -> Result<(), Fail> {
     for pages in COUNTS_OF_PAGES {
         let text = unchanged(rt.alloc(), *pages)?;
         let lines = unchanged_lines(rt.alloc(), pages.saturating_sub(1))?;
-        writes(&rt, "decode", &text, &lines)?;
+        runs(rt.alloc()).writes("decode", &text, &lines)?;
     }
     Ok(())
 }
@@ -139,20 +139,20 @@ fn unchanged_pages(rt: HostRuntime) -> Result<(), Fail> {
 fn more_pages_than_may_be_read(rt: HostRuntime) -> Result<(), Fail> {
     let line = b"input: Fumen.TooManyPages\n";
     let text = unchanged(rt.alloc(), 10_001)?;
-    refused(&rt, "decode", &[], &text, line)?;
-    refused(&rt, "show --page 1", &[], &text, line)
+    runs(rt.alloc()).refused("decode", &[], &text, line)?;
+    runs(rt.alloc()).refused("show --page 1", &[], &text, line)
 }
 
 #[test]
 fn as_many_lines_as_may_be_read(rt: HostRuntime) -> Result<(), Fail> {
     let lines = unchanged_lines(rt.alloc(), 9_999)?;
     let ended = succeeds(&rt, "encode", &lines)?;
-    writes(&rt, "decode", ended.out.bytes(), &lines)
+    runs(rt.alloc()).writes("decode", ended.out.bytes(), &lines)
 }
 
 #[test]
 fn more_lines_than_may_be_read(rt: HostRuntime) -> Result<(), Fail> {
     let lines = unchanged_lines(rt.alloc(), 10_000)?;
     let fault = b"input: List.TooManyPages 10001\n";
-    refused(&rt, "encode", &[], &lines, fault)
+    runs(rt.alloc()).refused("encode", &[], &lines, fault)
 }

@@ -1,7 +1,8 @@
 // Runs of `encode`, which reads the lines of pages from the source.
 use crate::tables::{repeated, succeeds};
+use crate::whole::runs;
 use pc_outside::NoMemory;
-use run_outcomes::asserts::{TextCase, refused, refuses_all_texts, writes};
+use run_outcomes::asserts::TextCase;
 use std::alloc::Global;
 use std::test::Fail;
 
@@ -61,8 +62,8 @@ const REFUSED: &[TextCase<'_>] = &[
 
 /// Asserts that `encode` writes this text for these lines, and that `decode` gives the lines back.
 fn both_ways(rt: &impl AllocGlobal, line: &str, lines: &[u8], text: &[u8]) -> Result<(), Fail> {
-    writes(rt, line, lines, text)?;
-    writes(rt, "decode", text, lines)
+    runs(rt.alloc()).writes(line, lines, text)?;
+    runs(rt.alloc()).writes("decode", text, lines)
 }
 
 #[test]
@@ -75,12 +76,12 @@ fn pages_are_encoded_and_decoded(rt: HostRuntime) -> Result<(), Fail> {
 
 #[test]
 fn the_last_line_may_have_no_end(rt: HostRuntime) -> Result<(), Fail> {
-    writes(&rt, "encode", b"| - --cl -", b"v115@vhAAgH\n")
+    runs(rt.alloc()).writes("encode", b"| - --cl -", b"v115@vhAAgH\n")
 }
 
 #[test]
 fn lists_that_are_refused(rt: HostRuntime) -> Result<(), Fail> {
-    refuses_all_texts(&rt, REFUSED)
+    runs(rt.alloc()).refuses_all_texts(REFUSED)
 }
 
 #[test]
@@ -94,7 +95,7 @@ fn row_22_is_above_the_pages_of_21_rows(rt: HostRuntime) -> Result<(), Fail> {
         b"| - --cl -\n",
     )?;
     let fault = b"input: Encode.RowTooHigh 1\n";
-    refused(&rt, "encode --dialect 110", &[], &rows, fault)
+    runs(rt.alloc()).refused("encode --dialect 110", &[], &rows, fault)
 }
 
 /// These digits as a text, in which a `?` stands before each that begins a line.
@@ -127,5 +128,5 @@ fn long_comments(rt: HostRuntime) -> Result<(), Fail> {
     let _ = succeeds(&rt, "encode", &commented(rt.alloc(), 4095)?)?;
     let longer = commented(rt.alloc(), 4096)?;
     let fault = b"input: Encode.CommentTooLong 1\n";
-    refused(&rt, "encode", &[], &longer, fault)
+    runs(rt.alloc()).refused("encode", &[], &longer, fault)
 }

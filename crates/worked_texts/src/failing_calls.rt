@@ -1,8 +1,9 @@
 // Reads and writes that fail, and sinks without enough room.
 use crate::tables::succeeds;
+use crate::whole::runs;
 use pc_outside::{MemorySink, MemorySource, NoMemory};
+use run_outcomes::Outcome;
 use run_outcomes::asserts::{has_ended, is_so};
-use run_outcomes::{Outcome, run_into, run_words};
 use std::alloc::Global;
 use std::test::Fail;
 
@@ -89,7 +90,7 @@ fn into(
     let source = MemorySource::new(Vec::from_slice(alloc, text)?, Vec::new(alloc));
     let out = MemorySink::new(alloc, room, Vec::from_slice(alloc, failing)?)?;
     let err = MemorySink::new(alloc, 1_000, Vec::from_slice(alloc, err_failing)?)?;
-    run_into(alloc, line, &[], source, out, err)
+    runs(alloc).run_into(line, &[], source, out, err)
 }
 
 /// Whether these bytes are a front part of others, and not all of them.
@@ -142,7 +143,7 @@ fn with_failing_read(
 ) -> Result<Outcome, NoMemory> {
     let bytes = Vec::from_slice(alloc, text)?;
     let source = MemorySource::new(bytes, vec![in alloc; read]?).with_piece(1);
-    run_words(alloc, line, &[], source, &[])
+    runs(alloc).run_words(line, &[], source, &[])
 }
 
 /// Asserts that, whichever of the first reads of one byte fails, the run ends with status 3 and writes nothing.

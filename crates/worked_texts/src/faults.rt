@@ -1,5 +1,6 @@
 // Runs that are refused, each with the line of its first fault.
-use run_outcomes::asserts::{Case, refuses_all};
+use crate::whole::runs;
+use run_outcomes::asserts::Case;
 use std::test::Fail;
 
 const WORDS: &[Case<'_>] = &[
@@ -80,20 +81,20 @@ const GIVEN_SEQUENCES: &[Case<'_>] = &[
 
 #[test]
 fn words(rt: HostRuntime) -> Result<(), Fail> {
-    refuses_all(&rt, WORDS)
+    runs(rt.alloc()).refuses_all(WORDS)
 }
 
 #[test]
 fn fields(rt: HostRuntime) -> Result<(), Fail> {
-    refuses_all(&rt, FIELDS)
+    runs(rt.alloc()).refuses_all(FIELDS)
 }
 
 #[test]
 fn patterns(rt: HostRuntime) -> Result<(), Fail> {
-    refuses_all(&rt, PATTERNS)
+    runs(rt.alloc()).refuses_all(PATTERNS)
 }
 
 #[test]
 fn given_sequences(rt: HostRuntime) -> Result<(), Fail> {
-    refuses_all(&rt, GIVEN_SEQUENCES)
+    runs(rt.alloc()).refuses_all(GIVEN_SEQUENCES)
 }

@@ -1,10 +1,9 @@
 // Other tables of offsets: how they change `path`, and what `kicks` writes for them.
+use crate::whole::runs;
 use kick_file::{parse, print};
 use pc_outside::{MemorySource, NoMemory, Source};
-use run_outcomes::asserts::{
-    Case, has_ended, is_so, lists, lists_all, newlines, over, refuses_all,
-};
-use run_outcomes::{Outcome, run_words};
+use run_outcomes::Outcome;
+use run_outcomes::asserts::{Case, has_ended, is_so, newlines};
 use std::alloc::Global;
 use std::test::Fail;
 
@@ -74,17 +73,17 @@ const LINES: &[&[u8]] = &[
 
 #[test]
 fn a_piece_without_kicks(rt: HostRuntime) -> Result<(), Fail> {
-    lists_all(&rt, PIECE_WITHOUT_KICKS)
+    runs(rt.alloc()).lists_all(PIECE_WITHOUT_KICKS)
 }
 
 #[test]
 fn faults_of_tables(rt: HostRuntime) -> Result<(), Fail> {
-    refuses_all(&rt, FAULTS)
+    runs(rt.alloc()).refuses_all(FAULTS)
 }
 
 /// The output of `kicks` with a table text.
 fn kicks_of(rt: &impl AllocGlobal, text: &str) -> Result<Vec<u8>, Fail> {
-    let ended = over(rt, "kicks --kicks", &[text], b"")?;
+    let ended = runs(rt.alloc()).over("kicks --kicks", &[text], b"")?;
     let output = ended.out.bytes();
     is_so(has_ended(&ended, 0, output, b""), text)?;
     Ok(Vec::from_slice(rt.alloc(), output)?)
@@ -104,7 +103,7 @@ fn the_table_and_its_kicks(rt: HostRuntime) -> Result<(), Fail> {
     }
     assert!(rt; newlines(&output) == 84);
     assert!(rt; output.starts_with(b"I0:0,0/-1,0/2,0/-1,0/2,0\nIR:-1,0/0,0/0,0/0,1/0,-2\n"));
-    lists(&rt, "kicks", &[], &output)
+    runs(rt.alloc()).lists("kicks", &[], &output)
 }
 
 /// The first 28 lines, separated by `;`.
@@ -140,7 +139,7 @@ fn with_faulty_table(alloc: Global) -> Result<Outcome, NoMemory> {
     let bytes = Vec::from_slice(alloc, b"hello")?;
     let source = MemorySource::new(bytes, vec![in alloc; 1]?);
     let line = "path --tetfu - --patterns I --kicks T";
-    run_words(alloc, line, &[], source, &[])
+    runs(alloc).run_words(line, &[], source, &[])
 }
 
 #[test]

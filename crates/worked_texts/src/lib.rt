@@ -23,3 +23,5 @@ mod selfruns;
 mod sources_and_sinks;
 #[cfg(test)]
 mod tables;
+#[cfg(test)]
+mod whole;

@@ -1,7 +1,7 @@
 // Sources of the most bytes that may be read, and of one byte more.
 use crate::tables::repeated;
+use crate::whole::runs;
 use pc_outside::NoMemory;
-use run_outcomes::asserts::ends;
 use std::alloc::Global;
 use std::test::Fail;
 
@@ -112,10 +112,10 @@ fn filled(alloc: Global, text: &[u8], filler: u8, length: usize) -> Result<Vec<u
 /// the text.
 fn reads(rt: &impl AllocGlobal, case: &LongSource<'_>) -> Result<(), Fail> {
     let most = filled(rt.alloc(), case.text, case.filler, MOST)?;
-    ends(rt, (case.line, &[], &most), case.end)?;
+    runs(rt.alloc()).ends((case.line, &[], &most), case.end)?;
     let more = filled(rt.alloc(), case.text, case.filler, MOST + 1)?;
     let too_long = (2, b"".as_slice(), b"input: SourceTooLong\n".as_slice());
-    ends(rt, (case.line, &[], &more), too_long)
+    runs(rt.alloc()).ends((case.line, &[], &more), too_long)
 }
 
 fn reads_all(rt: &impl AllocGlobal, cases: &[LongSource<'_>]) -> Result<(), Fail> {

@@ -1,7 +1,8 @@
 // Runs of `decode` and `show`, which read the source.
+use crate::whole::runs;
 use pc_outside::{MemorySource, NoMemory};
-use run_outcomes::asserts::{TextCase, has_ended, refused, refuses_all_texts, writes, writes_all};
-use run_outcomes::{Outcome, run_words};
+use run_outcomes::Outcome;
+use run_outcomes::asserts::{TextCase, has_ended};
 use std::alloc::Global;
 use std::test::Fail;
 
@@ -118,12 +119,12 @@ const REFUSED: &[TextCase<'_>] = &[
 fn slowly(alloc: Global, text: &[u8]) -> Result<Outcome, NoMemory> {
     let bytes = Vec::from_slice(alloc, text)?;
     let source = MemorySource::new(bytes, Vec::new(alloc)).with_piece(1);
-    run_words(alloc, "decode", &[], source, &[])
+    runs(alloc).run_words("decode", &[], source, &[])
 }
 
 /// Asserts what `decode` writes, also for a source that gives one byte at a time.
 fn decodes(rt: &impl AllocGlobal, text: &[u8], output: &[u8]) -> Result<(), Fail> {
-    writes(rt, "decode", text, output)?;
+    runs(rt.alloc()).writes("decode", text, output)?;
     if !has_ended(&slowly(rt.alloc(), text)?, 0, output, b"") {
         return Err(Fail::new(format_args!("another end: {text:?}")));
     }
@@ -141,23 +142,23 @@ fn pages_are_decoded(rt: HostRuntime) -> Result<(), Fail> {
 #[test]
 fn first_faults_of_a_fumen(rt: HostRuntime) -> Result<(), Fail> {
     for (text, line) in FAULTS {
-        refused(&rt, "decode", &[], text, line)?;
-        refused(&rt, "show --page 1", &[], text, line)?;
+        runs(rt.alloc()).refused("decode", &[], text, line)?;
+        runs(rt.alloc()).refused("show --page 1", &[], text, line)?;
     }
     Ok(())
 }
 
 #[test]
 fn first_faults_of_pages_of_21_rows(rt: HostRuntime) -> Result<(), Fail> {
-    refuses_all_texts(&rt, FAULTS_OF_21_ROWS)
+    runs(rt.alloc()).refuses_all_texts(FAULTS_OF_21_ROWS)
 }
 
 #[test]
 fn pages_are_shown(rt: HostRuntime) -> Result<(), Fail> {
-    writes_all(&rt, SHOWN)
+    runs(rt.alloc()).writes_all(SHOWN)
 }
 
 #[test]
 fn words_and_numbers_of_pages_are_refused(rt: HostRuntime) -> Result<(), Fail> {
-    refuses_all_texts(&rt, REFUSED)
+    runs(rt.alloc()).refuses_all_texts(REFUSED)
 }

@@ -2,9 +2,10 @@
 ghost use Rattle.std.specs.Prelude.{◌≤◌};
 
 use crate::tables::repeated;
+use crate::whole::runs;
 use pc_outside::{MemorySource, NoMemory};
-use run_outcomes::asserts::{has_ended, is_so, over};
-use run_outcomes::{Outcome, run_words};
+use run_outcomes::Outcome;
+use run_outcomes::asserts::{has_ended, is_so};
 use std::alloc::Global;
 use std::test::Fail;
 
@@ -53,7 +54,7 @@ fn by_pieces(alloc: Global, line: &str, text: &[u8], piece: usize) -> Result<Out
 {
     let bytes = Vec::from_slice(alloc, text)?;
     let source = MemorySource::new(bytes, Vec::new(alloc)).with_piece(piece);
-    run_words(alloc, line, &[], source, &[])
+    runs(alloc).run_words(line, &[], source, &[])
 }
 
 /// Whether a run ends like another one if each read moves at most `piece` bytes.
@@ -77,7 +78,7 @@ fn is_alike(
 
 /// Asserts that a run over a text ends alike for reads of several sizes.
 fn ends_alike(rt: &impl AllocGlobal, line: &str, text: &[u8]) -> Result<(), Fail> {
-    let whole = over(rt, line, &[], text)?;
+    let whole = runs(rt.alloc()).over(line, &[], text)?;
     for piece in PIECES {
         is_so(
             0 < *piece && is_alike(rt.alloc(), line, text, &whole, *piece)?,
@@ -99,7 +100,7 @@ fn each_command_that_reads(rt: HostRuntime) -> Result<(), Fail> {
 fn more_than_one_chunk(rt: HostRuntime) -> Result<(), Fail> {
     let lines = repeated(rt.alloc(), b"", b"| T0:4,0 ---- #hello\n", 1500, b"")?;
     ends_alike(&rt, "encode", &lines)?;
-    let text = over(&rt, "encode", &[], &lines)?;
+    let text = runs(rt.alloc()).over("encode", &[], &lines)?;
     ends_alike(&rt, "decode", text.out.bytes())?;
     ends_alike(&rt, "show --page 1500", text.out.bytes())
 }

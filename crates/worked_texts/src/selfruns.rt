@@ -1,9 +1,10 @@
 // Runs of `selfrun`, and its pages by the public calls.
 use crate::tables::succeeds;
+use crate::whole::runs;
 use fumen_digits::Dialect;
 use fumen_text::{decode, encode};
 use pc_app::sample_pages;
-use run_outcomes::asserts::{Case, lists, newlines, refuses_all};
+use run_outcomes::asserts::{Case, newlines};
 use std::alloc::Global;
 use std::test::Fail;
 
@@ -61,10 +62,10 @@ fn a_hundred_pages(rt: HostRuntime) -> Result<(), Fail> {
     assert!(rt; output.starts_with(b"pages 100\nbytes "));
     assert!(rt; has_third_line(output, b"same yes"));
     assert!(rt; newlines(output) == 5);
-    lists(&rt, "selfrun --pages 100 --number", &["0"], output)
+    runs(rt.alloc()).lists("selfrun --pages 100 --number", &["0"], output)
 }
 
 #[test]
 fn faults_of_selfrun(rt: HostRuntime) -> Result<(), Fail> {
-    refuses_all(&rt, FAULTS)
+    runs(rt.alloc()).refuses_all(FAULTS)
 }

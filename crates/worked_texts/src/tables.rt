@@ -1,13 +1,14 @@
 // Runs that end well, and texts that repeat a piece.
+use crate::whole::runs;
 use pc_outside::NoMemory;
 use run_outcomes::Outcome;
-use run_outcomes::asserts::{is_so, over};
+use run_outcomes::asserts::is_so;
 use std::alloc::Global;
 use std::test::Fail;
 
 /// A run over this text that ends with status 0.
 pub fn succeeds(rt: &impl AllocGlobal, line: &str, text: &[u8]) -> Result<Outcome, Fail> {
-    let ended = over(rt, line, &[], text)?;
+    let ended = runs(rt.alloc()).over(line, &[], text)?;
     is_so(ended.status.code() == 0, line)?;
     Ok(ended)
 }
