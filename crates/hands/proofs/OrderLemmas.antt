@@ -1,7 +1,7 @@
 -- Blocks whose keys rise, and where a key stands among them.
-use Rattle.std.proofs.Common.{ℕ, ◌≡◌, ◌≢◌, ◌+◌, ◌-◌, ◌<◌, ◌≤◌, false, ◌||◌, ◌&&◌, List, [], length, get_or, take, drop, All, ap, ◌∙◌, arith, inl, inr, rules}
+use Rattle.std.proofs.Common.{ℕ, ◌≡◌, ◌≢◌, ◌+◌, ◌-◌, ◌<◌, ◌≤◌, false, ◌||◌, ◌&&◌, List, [], length, get_or, take, drop, min, All, ap, ◌∙◌, arith, inl, inr, rules}
 use Rattle.std.proofs.lemmas.Bool.{cases_lt, or_from, eq-eqb}
-use Rattle.std.proofs.lemmas.List.{length-map, get_or-map, get_or-drop, get_or-take, get_or_default, drop_more, length-drop, length-take, take_all}
+use Rattle.std.proofs.lemmas.List.{length-map, get_or-map, get_or-drop, get_or-take, get_or_default, drop_more, drop_min, length-drop, length-take, take_all, take_min}
 use Rattle.std.proofs.Math.Bool.{or-false}
 use Rattle.lane_board.specs.Lanes.{has_bit}
 use Rattle.hands.specs.declared.block.Block.{Block}
@@ -47,9 +47,13 @@ in_order-drop blocks n up = rises-from (drop n blocks) no_block (λ i j before w
     let two = ap (λ (b : Block). b.key) (get_or-drop n blocks j no_block) in
     omega (arith, step, one, two))
 
--- all blocks from an index on
-pub behind-cut : (blocks slice others : List Block) (cut : ℕ) → others ≡ take (length slice - cut) (drop cut slice) → slice ≡ blocks → others ≡ drop cut blocks
-behind-cut blocks slice others cut is same = is ∙ take_all (length slice - cut) (drop cut slice) (omega (arith, length-drop cut slice)) ∙ ap (drop cut) same
+-- the first blocks up to a cut, and the others
+pub before-cut : (blocks slice first : List Block) (count cut : ℕ) → first ≡ take cut slice → slice ≡ blocks → cut ≡ min count (length blocks) → first ≡ take count blocks
+before-cut blocks slice first count cut is same at = is ∙ ap (take cut) same ∙ ap (λ n. take n blocks) at ∙ take_min count blocks
+
+pub behind-cut : (blocks slice others : List Block) (count cut : ℕ) → others ≡ take (length slice - cut) (drop cut slice) → slice ≡ blocks → cut ≡ min count (length blocks) → others ≡ drop count blocks
+behind-cut blocks slice others count cut is same at =
+    is ∙ take_all (length slice - cut) (drop cut slice) (omega (arith, length-drop cut slice)) ∙ ap (drop cut) same ∙ ap (λ n. drop n blocks) at ∙ drop_min count blocks
 
 -- the keys before an index are below this one
 pub record IsPassed (blocks : List Block) (next key : ℕ) : Type 0 where

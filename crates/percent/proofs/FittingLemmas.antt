@@ -1,7 +1,7 @@
 -- Hands that are left out are not good, one hand on.
 use Rattle.std.proofs.Common.{ℕ, suc, ◌≡◌, ◌+◌, ◌-◌, ◌/◌, ◌%◌, ◌<◌, ◌≤◌, Bool, true, false, ◌&&◌, ◌||◌, ◌==◌, cond, List, [], ◌∷◌, length, length-set, get_or, take, refl, sym, ap, subst, ◌∙◌, inl, inr, arith, rules}
 use Rattle.std.proofs.Common.{set as list_set, slice_index}
-use Rattle.std.proofs.Math.Bool.{and-false, and-true, or-false, or_assoc}
+use Rattle.std.proofs.Math.Bool.{and-false, and-true, or-false, or-true, or_assoc}
 use Rattle.std.proofs.Math.Path.{fun_ext}
 use Rattle.std.proofs.lemmas.List.{get_or-set_other}
 use Rattle.std.proofs.lemmas.Grind.{get_or-set_at}
@@ -217,22 +217,34 @@ raise-more a b counts i most low8 state first second = search (rules, length-set
 
 -- ---- one part of the hands after the other
 
--- those of the hands that are good are among what fits so far and the rest
+-- what fits so far and the rest are hands, and the good ones are among them
 pub record FitsSoFar (good : Game → ℕ → Bool) (hands fit rest : HandSet) : Type 0 where
+  pub fewer : (hand : ℕ) → (has fit hand || has rest hand) ≡ true → has hands hand ≡ true
   pub each : (game : Game) (hand : ℕ) → ((has fit hand || has rest hand) && good game hand) ≡ (has hands hand && good game hand)
 
 pub parts-start : (good : Game → ℕ → Bool) (hands fit rest : HandSet) → ((hand : ℕ) → has fit hand ≡ false) → ((hand : ℕ) → has rest hand ≡ has hands hand) → FitsSoFar good hands fit rest
-parts-start good hands fit rest none same = record { each = λ game hand i. (none hand i || same hand i) && good game hand }
+parts-start good hands fit rest none same = record {
+  fewer = λ hand some. sym (λ i. none hand i || same hand i) ∙ some;
+  each = λ game hand i. (none hand i || same hand i) && good game hand;
+}
 
 part_fits : (fit part others more good : Bool) → (more && good) ≡ (part && good) → (((fit || more) || others) && good) ≡ ((fit || (part || others)) && good)
 part_fits fit part others more true same =
     ap (λ b. b && true) (or_assoc fit more others ∙ ap (λ b. fit || (b || others)) (sym (and-true more) ∙ same ∙ and-true part))
 part_fits fit part others more false same = and-false _ ∙ sym (and-false _)
 
+part_fewer : (fit part others more : Bool) → (more ≡ true → part ≡ true) → ((fit || more) || others) ≡ true → (fit || (part || others)) ≡ true
+part_fewer true part others more fits some = refl
+part_fewer false part others true fits some = ap (λ b. b || others) (fits refl)
+part_fewer false part others false fits some = ap (λ b. part || b) some ∙ or-true part
+
 pub parts-more : (good : Game → ℕ → Bool) (hands fit next rest part others more : HandSet) (numbers : List ℕ) → ((hand : ℕ) → has rest hand ≡ (has part hand || has others hand))
-    → ((hand : ℕ) → has_number numbers hand ≡ has part hand) → ((game : Game) (hand : ℕ) → (has more hand && good game hand) ≡ (has_number numbers hand && good game hand))
+    → ((hand : ℕ) → has_number numbers hand ≡ has part hand) → ((hand : ℕ) → has more hand ≡ true → has_number numbers hand ≡ true)
+    → ((game : Game) (hand : ℕ) → (has more hand && good game hand) ≡ (has_number numbers hand && good game hand))
     → ((hand : ℕ) → has next hand ≡ (has fit hand || has more hand)) → FitsSoFar good hands fit rest → FitsSoFar good hands next others
-parts-more good hands fit next rest part others more numbers cut listed fits merged state = record {
+parts-more good hands fit next rest part others more numbers cut listed fewer fits merged state = record {
+  fewer = λ hand some. state.fewer hand (ap (λ b. has fit hand || b) (cut hand)
+      ∙ part_fewer (has fit hand) (has part hand) (has others hand) (has more hand) (λ is. sym (listed hand) ∙ fewer hand is) (sym (ap (λ b. b || has others hand) (merged hand)) ∙ some));
   each = λ game hand.
       ap (λ b. (b || has others hand) && good game hand) (merged hand)
       ∙ part_fits (has fit hand) (has part hand) (has others hand) (has more hand) (good game hand) (fits game hand ∙ ap (λ b. b && good game hand) (listed hand))
@@ -243,3 +255,6 @@ pub parts-end : (good : Game → ℕ → Bool) (hands fit rest : HandSet) → bl
     → (game : Game) (hand : ℕ) → (has fit hand && good game hand) ≡ (has hands hand && good game hand)
 parts-end good hands fit rest none state game hand =
     ap (λ b. b && good game hand) (sym (or-false (has fit hand)) ∙ ap (λ b. has fit hand || b) (sym (none-counted rest none hand))) ∙ state.each game hand
+
+pub parts-end_fewer : (good : Game → ℕ → Bool) (hands fit rest : HandSet) → FitsSoFar good hands fit rest → (hand : ℕ) → has fit hand ≡ true → has hands hand ≡ true
+parts-end_fewer good hands fit rest state hand is = state.fewer hand (ap (λ b. b || has rest hand) is)

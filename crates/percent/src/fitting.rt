@@ -186,7 +186,8 @@ pub fn fitting(
 /// How many blocks of hands are looked at together.
 const PART: usize = 16_384;
 
-/// The same for the hands of a set, without a list of all of them.
+/// The hands of a set whose pieces may fill the empty cells at a position. The others are not good there. They are looked
+/// for in parts of the set, so that no list of all hands is made.
 pub fn fitting_in_parts(
     alloc: Global,
     fits: &mut FitMemory,
@@ -195,7 +196,8 @@ pub fn fitting_in_parts(
     hands: &HandSet,
 ) -> Result<HandSet, NoMemory>
     requires { left ≤ 20 }
-    ensures { IfOk result (λ fit. (game : Game) (hand : ℕ) →
+    ensures fewer { IfOk result (λ fit. (hand : ℕ) → has fit hand ≡ true → has hands.now hand ≡ true) }
+    ensures good { IfOk result (λ fit. (game : Game) (hand : ℕ) →
         (has fit hand && is_good game (filled position.now.well) position.now.rows left hand)
         ≡ (has hands.now hand && is_good game (filled position.now.well) position.now.rows left hand)) }
 {
