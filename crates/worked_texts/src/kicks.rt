@@ -192,34 +192,14 @@ fn table_text(alloc: Global, seed: u64) -> Result<Vec<u8>, NoMemory> {
     Ok(text)
 }
 
-/// Asserts that the tables of 2,500 numbers, from this one on, are printed as they were read.
-fn printed_as_read(rt: &impl AllocGlobal, first: u64) -> Result<(), Fail> {
-    for number in 0..2_500 {
-        let text = String::from_utf8(table_text(rt.alloc(), first.wrapping_add(number))?);
+#[test]
+fn tables_are_printed_as_they_were_read(rt: HostRuntime) -> Result<(), Fail> {
+    for number in 0..10_000 {
+        let text = String::from_utf8(table_text(rt.alloc(), number)?);
         let text = text.ok().ok_or("no text")?;
         let rules = parse(text.as_str())?;
         let printed = print(rt.alloc(), &rules)?;
         is_so(printed.as_slice() == text.as_bytes(), text.as_str())?;
     }
     Ok(())
-}
-
-#[test]
-fn tables_from_0(rt: HostRuntime) -> Result<(), Fail> {
-    printed_as_read(&rt, 0)
-}
-
-#[test]
-fn tables_from_2500(rt: HostRuntime) -> Result<(), Fail> {
-    printed_as_read(&rt, 2_500)
-}
-
-#[test]
-fn tables_from_5000(rt: HostRuntime) -> Result<(), Fail> {
-    printed_as_read(&rt, 5_000)
-}
-
-#[test]
-fn tables_from_7500(rt: HostRuntime) -> Result<(), Fail> {
-    printed_as_read(&rt, 7_500)
 }
