@@ -23,3 +23,6 @@ pub mod GatherSteps
 pub mod NumberedHands
 mod WeightLemmas
 mod AllowingLemmas
+mod ChoiceSteps
+mod QueueHandLemmas
+mod QueueHandSteps

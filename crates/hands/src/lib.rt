@@ -8,6 +8,7 @@ mod block;
 mod hand;
 mod hand_set;
 mod lookup;
+mod queue_hands;
 mod rests;
 mod wanted;
 
@@ -15,3 +16,4 @@ pub use allowing::{Sums, sums_of, weights_of};
 pub use hand::hand_of;
 pub use hand_set::HandSet;
 pub use lookup::Starts;
+pub use queue_hands::QueueHands;
