@@ -1,5 +1,5 @@
 -- How many choices elements have, factor by factor.
-use Rattle.std.proofs.Common.{◌≡◌, ℕ, zero, suc, ◌+◌, ◌-◌, ◌*◌, ◌<◌, ◌≤◌, Bool, true, List, [], ◌∷◌, drop, get_or, length, refl, ap, sym, subst, ◌∙◌, arith, nat_le, rules}
+use Rattle.std.proofs.Common.{◌≡◌, ℕ, zero, suc, ◌+◌, ◌-◌, ◌*◌, ◌<◌, ◌≤◌, true, List, [], ◌∷◌, drop, get_or, length, refl, ap, sym, subst, ◌∙◌, arith, nat_le}
 use Rattle.std.specs.Prelude.{Some, slice_get}
 use Rattle.std.proofs.Math.Nat.{mul_assoc, mul_comm, mul-one, mul-zero, one-mul, zero-mul, mul-le-mul, mul-le-mul_left}
 use Rattle.std.proofs.lemmas.Bool.{agree_below_at, leb-true}
@@ -98,7 +98,7 @@ tails-some (suc index) (element ∷ elements) some =
     let parts = product-some (falling_factor (length (pieces_in element.set)) element.chosen) (queue_count elements) some in
     let rest = tails-some index elements parts.1 in
     let more : 1 * queue_count elements ≤ falling_factor (length (pieces_in element.set)) element.chosen * queue_count elements =
-      let one : 1 ≤ falling_factor (length (pieces_in element.set)) element.chosen = parts.0 in mul-le-mul one (omega arith) in
+    let one : 1 ≤ falling_factor (length (pieces_in element.set)) element.chosen = parts.0 in mul-le-mul one (omega arith) in
     (rest.0, omega (arith, rest.1, more, one-mul (queue_count elements)))
 
 pub tail-small : (elements : List Element) (index count : ℕ) → 0 < length (queues elements) → length (queues elements) ≡ queue_count elements

@@ -1,11 +1,10 @@
 -- The queues of the last elements come behind each choice of the elements before them.
-use Rattle.std.proofs.Common.{◌≡◌, ℕ, mul-zero, zero, suc, ◌+◌, ◌-◌, ◌*◌, ◌/◌, ◌%◌, ◌^◌, ◌<◌, ◌≤◌, List, [], ◌∷◌, ◌++◌, Option, Some, None, drop, take, get_or, length, map, zero-mul, refl, ap, sym, subst, ◌∙◌, append_assoc, arith, length-append, All, rules}
+use Rattle.std.proofs.Common.{◌≡◌, ℕ, mul-zero, zero, suc, ◌+◌, ◌-◌, ◌*◌, ◌/◌, ◌%◌, ◌^◌, ◌<◌, ◌≤◌, List, [], ◌∷◌, ◌++◌, Option, Some, None, drop, take, get_or, length, map, zero-mul, refl, ap, sym, subst, ◌∙◌, append_assoc, arith, length-append, All}
 use Rattle.std.specs.List.{flat_map, slice_get}
-use Rattle.std.proofs.Math.Nat.{add-mul, add-mul-div_right, add-mul-mod_self_right, div-eq_of_lt, div-lt_iff_lt-mul, div-mul-le_self, mod-eq_of_lt, mod-lt, mul-add-mod_self_right, mul_assoc, mul-add, one-mul, div-add-mod', add_comm, pow-le-pow_right, pow-succ'}
-use Rattle.std.proofs.lemmas.List.{get_or-append_right, get_or-map, get_or_append_left, length-map, length-take}
+use Rattle.std.proofs.Math.Nat.{add-mul, add-mul-div_right, div-eq_of_lt, div-lt_iff_lt-mul, div-mul-le_self, mod-eq_of_lt, mod-lt, mul-add-mod_self_right, mul_assoc, one-mul, div-add-mod', add_comm, pow-le-pow_right, pow-succ'}
+use Rattle.std.proofs.lemmas.List.{get_or-append_right, get_or-map, get_or_append_left, length-map}
 use Rattle.std.proofs.lemmas.Option.{get_or_from_slice_get}
 use Rattle.srs.specs.declared.piece.Piece.{Piece}
-use Rattle.srs.specs.Piece.{piece_code}
 use Rattle.queue_pattern.specs.declared.element.Element.{Element}
 use Rattle.queue_pattern.specs.Queues.{choices, pieces_in, queue_count, queue_len, queues}
 use Rattle.hold_queue.specs.declared.hold.Hold.{Hold}
@@ -100,14 +99,17 @@ placed fronts_len others size m number some multiple within =
     positive : (a b n : ℕ) → n < a * b → 0 < b
     positive a zero n within = absurd (omega (arith, within))
     positive a (suc b) n within = omega arith
+
     split : (n b : ℕ) → n ≡ n / b * b + n % b
     split n b = sym (div-add-mod' n b)
+
     front_of : (n q r others size m : ℕ) → 0 < size → others ≡ m * size → n ≡ q * others + r → n / size * size ≡ q * others + r / size * size
     front_of n q r others size m some multiple is =
         let turned : n ≡ r + (q * m) * size = is ∙ add_comm (q * others) r ∙ ap (λ o. r + q * o) multiple ∙ ap (λ o. r + o) (sym (mul_assoc q m size)) in
         ap (λ k. k / size * size) turned ∙ ap (λ k. k * size) (add-mul-div_right r (q * m) some)
         ∙ add-mul (r / size) (q * m) size ∙ add_comm (r / size * size) (q * m * size)
         ∙ ap (λ o. o + r / size * size) (mul_assoc q m size ∙ ap (λ o. q * o) (sym multiple))
+
     rest_of : (q r size m : ℕ) → (q * (m * size) + r) % size ≡ r % size
     rest_of q r size m = ap (λ n. (n + r) % size) (sym (mul_assoc q m size)) ∙ mul-add-mod_self_right (q * m) size r
 
@@ -127,7 +129,7 @@ around-more front element elements number some within rest =
     let last_size : (number % others) / size * size < others = omega (arith, div-mul-le_self (number % others) size, numbers.r_within) in
     let first_within : 0 < length fronts = omega (arith, numbers.q_within) in
     let at : (q r : ℕ) → q < length fronts → r < others → get_or (queues (element ∷ elements)) (q * others + r) [] ≡ get_or fronts q [] ++ get_or (queues elements) r [] =
-      λ q r q_within r_within. joined-at fronts (queues elements) q r q_within r_within in
+    λ q r q_within r_within. joined-at fronts (queues elements) q r q_within r_within in
     record {
       front = get_or fronts (number / others) [] ++ four.front;
       tail = four.tail;
@@ -150,6 +152,7 @@ around-more front element elements number some within rest =
   where
     from_zero : (m n : ℕ) → n ≡ 0 * m + n
     from_zero m n = let none = zero-mul m in omega (arith, none)
+
     mod-le : (n m : ℕ) → n % m ≤ n
     mod-le n m = omega (arith, div-add-mod' n m)
 
@@ -178,15 +181,15 @@ number-joined m [] tail =
 number-joined zero (piece ∷ front) tail =
     let short : 0 - suc (length front) ≡ 0 = omega arith in
     let none : 8 ^ suc (length front) * number_of (take (0 - suc (length front)) tail) ≡ 0 =
-      ap (λ n. 8 ^ suc (length front) * number_of (take n tail)) short ∙ mul-zero (8 ^ suc (length front)) in
+    ap (λ n. 8 ^ suc (length front) * number_of (take n tail)) short ∙ mul-zero (8 ^ suc (length front)) in
     omega (arith, none)
 number-joined (suc m) (piece ∷ front) tail =
     let rest = number-joined m front tail in
     let power = pow-succ' 8 (length front) in
     let shorter : suc m - suc (length front) ≡ m - length front = omega arith in
     let same =
-      ap (λ n. 8 ^ suc (length front) * number_of (take n tail)) shorter ∙ ap (λ n. n * number_of (take (m - length front) tail)) power
-      ∙ mul_assoc 8 (8 ^ length front) (number_of (take (m - length front) tail)) in
+    ap (λ n. 8 ^ suc (length front) * number_of (take n tail)) shorter ∙ ap (λ n. n * number_of (take (m - length front) tail)) power
+    ∙ mul_assoc 8 (8 ^ length front) (number_of (take (m - length front) tail)) in
     omega (arith, rest, same)
 
 -- two hands with each front and each tail

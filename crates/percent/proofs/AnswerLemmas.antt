@@ -11,20 +11,22 @@ use Rattle.well.specs.Well.{filled}
 use Rattle.queue_pattern.specs.Pattern.{elements_of}
 use Rattle.queue_pattern.specs.Queues.{queues}
 use Rattle.hands.specs.declared.hand_set.HandSet.{HandSet}
+use Rattle.hands.specs.declared.queue_hands.QueueHands.{QueueHands}
 use Rattle.hands.specs.HandSets.{has}
+use Rattle.hands.specs.QueueHands.{queue_hand}
 use Rattle.hands.specs.Numbers.{has_number}
 use Rattle.hands.proofs.CallerLemmas.{has-push}
 use Rattle.problem.specs.declared.problem.Problem.{Problem}
 use Rattle.problem.specs.Problem.{IsFit, empties_of, needed_of}
 use Rattle.hands.specs.Hands.{hand_of}
-use Rattle.percent.specs.GoodHands.{AreAnswers, game_of, hand_at, HasGoodHands, HasHandsBefore, HasHandsBetween, is_good, is_good_queue}
+use Rattle.percent.specs.GoodHands.{AreAnswers, AreHandsOf, game_of, hand_at, HasGoodHands, HasHandsBefore, HasHandsBetween, is_good, is_good_queue}
 use Rattle.percent.proofs.GoodLemmas.{good-decides, uneven-none}
 
--- the hand of a queue that was read
-pub hand-read : (problem : Problem) (number : ℕ) (queue : List Piece) → slice_get (queues (elements_of problem.pattern)) number ≡ Some queue
-    → hand_of problem.hold problem.held (needed_of problem) queue ≡ hand_at problem number
+-- the hand of a problem's queue
+pub hand-own : (problem : Problem) (hands : QueueHands) (number : ℕ) → AreHandsOf problem hands
+    → queue_hand hands.hold hands.held hands.placements (elements_of hands.pattern) number ≡ hand_at problem number
 unfolding hand_at
-hand-read problem number queue read = search (rules, get_or_from_slice_get)
+hand-own problem hands number own = λ i. queue_hand (own.hold i) (own.held i) (own.placements i) (elements_of (own.pattern i)) number
 
 pub hands-none : (problem : Problem) (has_hand : ℕ → Bool) (first : ℕ) → HasHandsBetween problem has_hand first first
 hands-none problem has_hand first = record { each = λ k from below. absurd (omega arith) }
@@ -52,7 +54,7 @@ hands-merged problem has_hand has_more has_all first end merged before more = re
 pub good-hands : (problem : Problem) (hands good : HandSet) → HasHandsBefore problem (has hands) (length (queues (elements_of problem.pattern)))
     → ((hand : ℕ) → has good hand ≡ (has hands hand && is_good (game_of problem) (filled problem.well) problem.height (needed_of problem) hand))
     → HasGoodHands problem good
-unfolding hand_at is_good_queue
+unfolding hand_at is_good_queue queue_hand
 good-hands problem hands good all good_is = search rules
 
 -- so many of the first queues are good

@@ -12,7 +12,9 @@ use Rattle.well.specs.Lock.{locked, rows_removed}
 use Rattle.well.specs.LockLaws.{is_below}
 use Rattle.moves.specs.PlaceTest.{is_place}
 use Rattle.hands.specs.declared.hand_set.HandSet.{HandSet}
+use Rattle.hands.specs.declared.queue_hands.QueueHands.{QueueHands}
 use Rattle.hands.specs.HandSets.{has}
+use Rattle.hands.specs.QueueHands.{queue_hand}
 use Rattle.queue_pattern.specs.Pattern.{elements_of}
 use Rattle.queue_pattern.specs.Queues.{queues}
 use Rattle.problem.specs.declared.problem.Problem.{Problem}
@@ -56,8 +58,14 @@ is_good_queue problem queue =
 -- the hand of the queue with this number
 unfoldable pub hand_at : Problem → ℕ → ℕ
 hand_at problem number =
-    hand_of problem.hold problem.held (needed_of problem)
-    (slice_index_or (queues (elements_of problem.pattern)) number [])
+    queue_hand problem.hold problem.held (needed_of problem) (elements_of problem.pattern) number
+
+-- these are the hands of a problem's queues
+pub record AreHandsOf (problem : Problem) (hands : QueueHands) : Type 0 where
+  pub pattern : hands.pattern ≡ problem.pattern
+  pub hold : hands.hold ≡ problem.hold
+  pub held : hands.held ≡ problem.held
+  pub placements : hands.placements ≡ needed_of problem
 
 -- a test passes for the hand of each queue from one number on, before another one
 pub record HasHandsBetween (problem : Problem) (has_hand : ℕ → Bool) (first end : ℕ) : Type 0 where

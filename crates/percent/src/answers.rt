@@ -4,12 +4,12 @@ ghost use Rattle.queue_pattern.specs.Pattern.{elements_of};
 ghost use Rattle.queue_pattern.specs.Queues.{queues};
 ghost use Rattle.hands.specs.HandSets.{has};
 ghost use Rattle.problem.specs.Problem.{IsFit};
-ghost use Rattle.percent.specs.GoodHands.{AreAnswers, HasGoodHands, HasHandsBefore, HasHandsBetween, is_good_queue};
+ghost use Rattle.percent.specs.GoodHands.{AreAnswers, AreHandsOf, HasGoodHands, HasHandsBefore, HasHandsBetween, is_good_queue};
 
-use crate::start::{good_hands, hand};
-use hands::{HandSet, Starts};
+use crate::start::good_hands;
+use hands::{HandSet, QueueHands, Starts};
 use pc_outside::NoMemory;
-use problem::Problem;
+use problem::{Problem, needed};
 use reach::Steps;
 use std::alloc::Global;
 use std::sync::ledger::Ledger;
@@ -17,36 +17,50 @@ use std::sync::ledger::Ledger;
 /// How many hands are gathered before a set has them.
 const GATHERED: u32 = 65_536;
 
+/// The hands of a problem's queues.
+fn queue_hands(alloc: Global, problem: &Problem) -> Result<QueueHands, NoMemory>
+    requires { IsFit problem.now }
+    ensures { IfOk result (AreHandsOf problem.now) }
+{
+    let placements = needed(problem);
+    QueueHands::new(
+        alloc,
+        &problem.pattern,
+        problem.hold,
+        problem.held,
+        placements,
+    )
+}
+
 /// The hands of the queues from one number on, before another one.
 fn hands_between(
     alloc: Global,
-    problem: &Problem,
+    queue_hands: &QueueHands,
     first: u32,
     end: u32,
 ) -> Result<HandSet, NoMemory>
-    requires fit { IsFit problem.now }
-    requires within { end ≤ length (queues (elements_of problem.now.pattern)) }
-    ensures { IfOk result (λ hands. HasHandsBetween problem.now (has hands) first end) }
+    requires { end ≤ length (queues (elements_of queue_hands.now.pattern)) }
+    ensures { IfOk result (λ hands. (problem : Problem) → AreHandsOf problem queue_hands.now
+        → HasHandsBetween problem (has hands) first end) }
 {
     let mut numbers = Vec::with_capacity(alloc, end.saturating_sub(first) as usize)?;
     for number in first..end {
-        numbers.push(hand(problem, number))?;
+        numbers.push(queue_hands.hand(number))?;
     }
     HandSet::of(alloc, numbers.as_slice())
 }
 
 /// The hands of all queues, each once.
-fn hands_of(alloc: Global, problem: &Problem) -> Result<HandSet, NoMemory>
-    requires { IsFit problem.now }
-    ensures { IfOk result (λ hands.
-        HasHandsBefore problem.now (has hands) (length (queues (elements_of problem.now.pattern)))) }
+fn hands_of(alloc: Global, queue_hands: &QueueHands) -> Result<HandSet, NoMemory>
+    ensures { IfOk result (λ hands. (problem : Problem) → AreHandsOf problem queue_hands.now
+        → HasHandsBefore problem (has hands) (length (queues (elements_of problem.pattern)))) }
 {
-    let count = problem.pattern.count();
+    let count = queue_hands.pattern.count();
     let mut hands = HandSet::none(alloc);
     let mut first = 0;
     while first < count {
         let end = count.min(first.saturating_add(GATHERED));
-        let more = hands_between(alloc, problem, first, end)?;
+        let more = hands_between(alloc, queue_hands, first, end)?;
         hands = hands.merged(alloc, &more)?;
         first = end;
     }
@@ -71,10 +85,11 @@ fn all_good(alloc: Global, problem: &Problem, hands: &HandSet) -> Result<Vec<boo
 fn judged(
     alloc: Global,
     problem: &Problem,
+    queue_hands: &QueueHands,
     all: &HandSet,
     good: &HandSet,
 ) -> Result<Vec<bool>, NoMemory>
-    requires fit { IsFit problem.now }
+    requires own { AreHandsOf problem.now queue_hands.now }
     requires each { HasHandsBefore problem.now (has all.now) (length (queues (elements_of problem.now.pattern))) }
     requires exact { HasGoodHands problem.now good.now }
     ensures { IfOk result (λ v. AreAnswers problem.now v.items (length (queues (elements_of problem.now.pattern)))) }
@@ -86,7 +101,7 @@ fn judged(
     let count = problem.pattern.count();
     let mut answers = Vec::with_capacity(alloc, count as usize)?;
     for number in 0..count {
-        answers.push(starts.has(good, hand(problem, number)))?;
+        answers.push(starts.has(good, queue_hands.hand(number)))?;
     }
     Ok(answers)
 }
@@ -132,9 +147,10 @@ impl Answers {
         ensures problem { IfOk result (λ answers. problem_of answers ≡ problem.now) }
         ensures counted { steps.old ≤ steps.new }
     {
-        let hands = hands_of(alloc, problem)?;
+        let queue_hands = queue_hands(alloc, problem)?;
+        let hands = hands_of(alloc, &queue_hands)?;
         let good = good_hands(alloc, problem, &hands, steps)?;
-        let good = judged(alloc, problem, &hands, &good)?;
+        let good = judged(alloc, problem, &queue_hands, &hands, &good)?;
         let count = count_good(problem, good.as_slice());
         Ok(Answers {
             problem: *problem,

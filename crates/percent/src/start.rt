@@ -1,12 +1,10 @@
 // Where the search for good hands begins.
-ghost use Rattle.std.specs.Prelude.{◌≡◌, ℕ, ◌≤◌, ◌<◌, ◌^◌, ◌&&◌, ◌↔◌, IsTrue, IfOk, length};
+ghost use Rattle.std.specs.Prelude.{◌≡◌, ℕ, ◌≤◌, ◌^◌, ◌&&◌, ◌↔◌, IsTrue, IfOk};
 ghost use Rattle.well.specs.Well.{filled};
-ghost use Rattle.queue_pattern.specs.Pattern.{elements_of};
-ghost use Rattle.queue_pattern.specs.Queues.{queues};
 ghost use Rattle.hands.specs.HandSets.{has};
 ghost use Rattle.problem.specs.Problem.{IsFit, needed_of};
 ghost use Rattle.percent.specs.Good.{Good};
-ghost use Rattle.percent.specs.GoodHands.{game_of, hand_at, is_good};
+ghost use Rattle.percent.specs.GoodHands.{game_of, is_good};
 
 use crate::answered::answered_first;
 use crate::fitting::fitting_in_parts;
@@ -74,16 +72,6 @@ pub fn good_hands<L: Ledger>(
     let position = first_position(problem);
     let fit = fitting_in_parts(alloc, &mut kept.fits, &position, left, hands)?;
     answered_first(alloc, &mut kept, &position, left, &fit, steps)
-}
-
-/// The hand of the queue with this number, counted from 0.
-pub fn hand(problem: &Problem, number: u32) -> u64
-    requires fit { IsFit problem.now }
-    requires within { number < length (queues (elements_of problem.now.pattern)) }
-    ensures { result ≡ hand_at problem.now number }
-{
-    let queue = problem.pattern.queue(number);
-    hand_of(problem.hold, problem.held, needed(problem), &queue)
 }
 
 /// Whether a queue is good: whether it permits the pieces of some sequence that plays in the problem. Counts each

@@ -1,5 +1,5 @@
 -- Factor after factor is taken.
-use Rattle.std.proofs.Common.{◌≤◌, ◌-◌, ◌*◌, ap, arith, length, subst, sym}
+use Rattle.std.proofs.Common.{◌≤◌, ◌*◌, ap, arith, length, subst, sym}
 use Rattle.queue_pattern.specs.Queues.{pieces_in}
 use Rattle.hands.proofs.ChoiceSteps.{Choosing, choosing-ends, choosing-more, choosing-small, choosing-starts}
 use Rattle.hands.proofs.queue_hands.choice_count.Goals as goal

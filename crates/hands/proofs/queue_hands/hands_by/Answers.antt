@@ -1,8 +1,8 @@
 -- Each hand that is pushed is that of the queue that was read.
-use Rattle.std.proofs.Common.{◌∙◌, arith}
+use Rattle.std.proofs.Common.{◌∙◌}
 use Rattle.queue_pattern.specs.Pattern.{elements_of}
 use Rattle.hands.proofs.QueueHandLemmas.{hand-read}
-use Rattle.hands.proofs.QueueHandSteps.{listing-ends, listing-more}
+use Rattle.hands.proofs.QueueHandSteps.{listing-more}
 use Rattle.hands.proofs.queue_hands.hands_by.Goals as goal
 
 pub loop-number-preserved : goal.loop-number-preserved

@@ -13,9 +13,11 @@ returns-then-more-gt-MOST_TAILS-clause-within c =
     (tail-small (elements_of c.args.pattern.now) c.loop-index.index c.loop-index.count (pattern-some c.args.pattern.now) (c.queues_are_counted.ensures (elements_of c.args.pattern.now)) c.loop-index.invariant.0).1
 
 pub loop-index-preserved : goal.loop-index-preserved
-loop-index-preserved c =
-    (count-more (elements_of c.args.pattern.now) c.loop-index.index c.loop-index.count c.choice_count.result c.element.result c.loop-index-test.true
-    (omega (arith, c.loop-index.auto.index, c.elements-index.ensures.number)) c.element.ensures c.choice_count.ensures.value c.loop-index.invariant.0, c.if-more-gt-MOST_TAILS.false)
+loop-index-preserved c = (
+  count-more (elements_of c.args.pattern.now) c.loop-index.index c.loop-index.count c.choice_count.result c.element.result c.loop-index-test.true
+      (omega (arith, c.loop-index.auto.index, c.elements-index.ensures.number)) c.element.ensures c.choice_count.ensures.value c.loop-index.invariant.0,
+  c.if-more-gt-MOST_TAILS.false,
+)
 
 pub returns-clause-some : goal.returns-clause-some
 returns-clause-some c =

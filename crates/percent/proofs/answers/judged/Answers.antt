@@ -1,7 +1,7 @@
 -- Each queue is judged by its hand.
-use Rattle.std.proofs.Common.{subst, arith}
+use Rattle.std.proofs.Common.{◌∙◌, subst, arith}
 use Rattle.percent.specs.GoodHands.{AreAnswers}
-use Rattle.percent.proofs.AnswerLemmas.{judge-starts, judge-more, whole-hands}
+use Rattle.percent.proofs.AnswerLemmas.{hand-own, judge-starts, judge-more, whole-hands}
 use Rattle.percent.proofs.answers.judged.Goals as goal
 
 pub loop-number-init : goal.loop-number-init
@@ -11,7 +11,8 @@ pub loop-number-preserved : goal.loop-number-preserved
 loop-number-preserved c =
     rw c.in_ok-push.ensures.items
     (judge-more c.args.problem.now c.args.good.now c.loop-number.answers.items c.loop-number.number c.hand.result c.has.result c.requires.exact
-    (omega (arith, c.loop-number-test.true, c.count-count.ensures.number)) c.hand.ensures c.has.ensures c.loop-number.invariant)
+    (omega (arith, c.loop-number-test.true, c.count-count.ensures.number))
+    (c.hand.ensures ∙ hand-own c.args.problem.now c.args.queue_hands.now c.loop-number.number c.requires.own) c.has.ensures c.loop-number.invariant)
 
 pub returns : goal.returns
 returns c = subst (AreAnswers c.args.problem.now c.loop-number.answers.items) (omega (arith, c.loop-number-test.false, c.loop-number.auto.number-end, c.count-count.ensures.number)) c.loop-number.invariant

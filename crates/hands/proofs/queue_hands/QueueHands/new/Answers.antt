@@ -1,5 +1,5 @@
 -- The lists hold what they are made from.
-use Rattle.std.proofs.Common.{arith, subst}
+use Rattle.std.proofs.Common.{subst}
 use Rattle.queue_pattern.specs.Pattern.{elements_of}
 use Rattle.hands.specs.QueueHands.{AreHandsBy}
 use Rattle.hands.proofs.QueueHandLemmas.{beside}

@@ -5,7 +5,8 @@ use Rattle.percent.proofs.AnswerLemmas.{good-hands}
 use Rattle.percent.proofs.answers.Answers.new.Goals as goal
 
 pub judged-requires-clause-exact : goal.judged-requires-clause-exact
-judged-requires-clause-exact g c = good-hands c.args.problem.now c.in_ok-hands.hands c.in_ok-good.good c.in_ok-hands.ensures c.in_ok-good.ensures.members
+judged-requires-clause-exact g c =
+    good-hands c.args.problem.now c.in_ok-hands.hands c.in_ok-good.good (c.in_ok-hands.ensures c.args.problem.now c.in_ok-queue_hands.ensures) c.in_ok-good.ensures.members
 
 pub invariant_of-result : goal.invariant_of-result
 invariant_of-result g c = record {
