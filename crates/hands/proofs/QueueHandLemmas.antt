@@ -11,7 +11,8 @@ use Rattle.hold_queue.specs.declared.hold.Hold.{Hold}
 use Rattle.hold_queue.specs.declared.hold.Hold.TheVariants.{Allowed, Avoided}
 use Rattle.hold_queue.specs.AtHand.{at_hand, taken_from}
 use Rattle.hands.specs.Hands.{hand_of, number_of}
-use Rattle.hands.specs.QueueHands.{AreSideBySide, IsLast, queue_hand}
+use Rattle.hands.specs.QueueHands.{queue_hand}
+use Rattle.hands.specs.QueueLists.{AreSideBySide, IsLast}
 use Rattle.hands.proofs.NumberSteps.{number-small}
 
 -- each choice before each queue

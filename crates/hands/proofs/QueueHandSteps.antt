@@ -9,7 +9,8 @@ use Rattle.queue_pattern.specs.Queues.{queues}
 use Rattle.hold_queue.specs.declared.hold.Hold.{Hold}
 use Rattle.queue_pattern.specs.Pattern.{elements_of}
 use Rattle.hands.specs.declared.queue_hands.QueueHands.{QueueHands}
-use Rattle.hands.specs.QueueHands.{AreHandsBy, queue_hand}
+use Rattle.hands.specs.QueueHands.{queue_hand}
+use Rattle.hands.specs.QueueLists.{AreHandsBy}
 use Rattle.hands.proofs.QueueHandLemmas.{hand-small}
 
 -- the hands of the queues below a number that is a multiple of the step

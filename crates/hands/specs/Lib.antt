@@ -8,3 +8,4 @@ pub mod QueueHands
 pub mod Weights
 -- What the invariants of types cite: what their private fields hold and stand for
 pub mod BlockHands
+pub mod QueueLists

@@ -1,29 +1,11 @@
 -- The hands of a pattern's queues.
-use Rattle.std.specs.Prelude.{◌≡◌, ℕ, ◌+◌, ◌*◌, ◌/◌, ◌%◌, ◌<◌, Option, List, [], drop, length, slice_index, slice_index_or}
+use Rattle.std.specs.Prelude.{ℕ, Option, List, [], slice_index_or}
 use Rattle.srs.specs.declared.piece.Piece.{Piece}
 use Rattle.queue_pattern.specs.declared.element.Element.{Element}
-use Rattle.queue_pattern.specs.Queues.{queue_count, queues}
+use Rattle.queue_pattern.specs.Queues.{queues}
 use Rattle.hold_queue.specs.declared.hold.Hold.{Hold}
 use Rattle.hands.specs.Hands.{hand_of}
 
 -- the hand of the queue with this number, from which so many pieces are taken
 unfoldable pub queue_hand : Hold → Option Piece → ℕ → List Element → ℕ → ℕ
 queue_hand hold held count elements number = hand_of hold held count (slice_index_or (queues elements) number [])
-
--- some last elements have so many queues
-pub record IsLast (elements : List Element) (size : ℕ) : Type 0 where
-  pub front : ℕ
-  pub is : size ≡ queue_count (drop front elements)
-
--- the hand of each queue below a number that is a multiple of the step, in order
-pub record AreHandsBy (hold : Hold) (held : Option Piece) (count : ℕ) (elements : List Element) (step end : ℕ)
-    (hands : List ℕ) : Type 0 where
-  pub each : (i : ℕ) → i < length hands → slice_index hands i ≡ queue_hand hold held count elements (i * step)
-  pub all : (number : ℕ) → number < end → number / step < length hands
-
--- Each hand has the front of the last one before it whose number is a multiple of a size, and the tail of the one that is
--- as far from the first as it is from that.
-pub record AreSideBySide (hold : Hold) (held : Option Piece) (count : ℕ) (elements : List Element) (size : ℕ) : Type 0 where
-  pub each : (number : ℕ) → number < length (queues elements)
-      → queue_hand hold held count elements number + queue_hand hold held count elements 0
-      ≡ queue_hand hold held count elements (number / size * size) + queue_hand hold held count elements (number % size)

@@ -3,7 +3,8 @@
 ghost use Rattle.std.specs.Prelude.{◌≡◌, ◌≤◌, ◌<◌, IfOk, length};
 ghost use Rattle.queue_pattern.specs.Pattern.{elements_of};
 ghost use Rattle.queue_pattern.specs.Queues.{falling_factor, pieces_in, queues};
-ghost use Rattle.hands.specs.QueueHands.{AreHandsBy, AreSideBySide, IsLast, queue_hand};
+ghost use Rattle.hands.specs.QueueHands.{queue_hand};
+ghost use Rattle.hands.specs.QueueLists.{AreHandsBy, AreSideBySide, IsLast};
 
 use crate::hand::hand_of;
 use hold_queue::Hold;

@@ -1,7 +1,7 @@
 -- The lists hold what they are made from.
 use Rattle.std.proofs.Common.{subst}
 use Rattle.queue_pattern.specs.Pattern.{elements_of}
-use Rattle.hands.specs.QueueHands.{AreHandsBy}
+use Rattle.hands.specs.QueueLists.{AreHandsBy}
 use Rattle.hands.proofs.QueueHandLemmas.{beside}
 use Rattle.hands.proofs.queue_hands.QueueHands.new.Goals as goal
 
