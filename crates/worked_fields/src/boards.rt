@@ -13,16 +13,28 @@ fn removal_lowers_by_each_full_row_below(rt: HostRuntime) {
     );
 }
 
+/// Two cells, of which the second is in the other set too.
+fn left() -> LaneBoard<8> {
+    LaneBoard::empty().with(0, 7).with(4, 0)
+}
+
+fn right() -> LaneBoard<8> {
+    LaneBoard::empty().with(9, 7).with(4, 0)
+}
+
 #[test]
-fn sets_of_two_cells(rt: HostRuntime) {
-    let left = LaneBoard::<8>::empty().with(0, 7).with(4, 0);
-    let right = LaneBoard::empty().with(9, 7).with(4, 0);
+fn cells_of_both_sets_and_of_one(rt: HostRuntime) {
+    let (left, right) = (left(), right());
     assert!(rt; left.and(&right).equal(&LaneBoard::empty().with(4, 0)));
     assert!(rt; left.minus(&right).equal(&LaneBoard::empty().with(0, 7)));
-    let both = left.or(&right);
-    assert!(rt; both.count() == 3 && both.row(7) == 0b10_0000_0001);
-    assert!(rt; left.get(0, 7) && !left.get(9, 7));
     assert!(rt; left.minus(&left).is_empty() && !left.is_empty());
+}
+
+#[test]
+fn cells_of_some_set(rt: HostRuntime) {
+    let both = left().or(&right());
+    assert!(rt; both.count() == 3 && both.row(7) == 0b10_0000_0001);
+    assert!(rt; left().get(0, 7) && !left().get(9, 7));
 }
 
 #[test]

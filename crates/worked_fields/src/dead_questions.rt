@@ -10,6 +10,13 @@ fn questions_are_kept(rt: HostRuntime) {
     assert!(rt; !memo.is_dead(&well, 1, &[0; 7]));
     assert!(rt; note(&mut memo, &well, &[0; 7]) && memo.len() == 1);
     assert!(rt; knows_one_question(&mut memo, &well));
+}
+
+#[test]
+fn a_later_question_evicts_the_first(rt: HostRuntime) {
+    let mut memo = DeadMemo::new(rt.alloc(), 1).expect(&rt, "memory");
+    let well = Well::from_rows(b"XXXXXX____").expect(&rt, "a rows text");
+    assert!(rt; note(&mut memo, &well, &[0; 7]) && memo.is_dead(&well, 1, &[0; 7]));
     assert!(rt; note(&mut memo, &Well::empty(), &[1; 7]) && memo.len() == 1);
     assert!(rt; !memo.is_dead(&well, 1, &[0; 7]));
 }

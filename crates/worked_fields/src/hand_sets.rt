@@ -1,7 +1,9 @@
-// Sets of hands: each call, and cases that cross blocks. Hands are written in digits of eight, the first piece last.
-use hands::{HandSet, Starts};
+// The hands of queues, and sets of hands: each call, and cases that cross blocks. Hands are written in digits of eight, the
+// first piece last.
+use hands::{HandSet, QueueHands, Starts, hand_of};
 use hold_queue::Hold;
 use pc_outside::NoMemory;
+use queue_pattern::Pattern;
 use srs::Piece;
 use std::alloc::Global;
 
@@ -97,4 +99,44 @@ fn rests_of_hands(rt: HostRuntime) {
     assert!(rt; are_others(rt.alloc(), Hold::Avoided, &hands, &[0o23, 0o24], &others) == Ok(true));
     let others = [0o5, 0o35, 0o1235];
     assert!(rt; are_others(rt.alloc(), Hold::Allowed, &hands, &[0o23, 0o24], &others) == Ok(true));
+}
+
+/// Whether the hand of each queue of a pattern is found in two lists as it is read from the queue.
+fn has_queue_hands(
+    alloc: Global,
+    text: &str,
+    hold: Hold,
+    held: Option<Piece>,
+    placements: u8,
+) -> Result<bool, NoMemory> {
+    let Ok(pattern) = Pattern::parse(text) else {
+        return Ok(false);
+    };
+    let hands = QueueHands::new(alloc, &pattern, hold, held, placements.min(20))?;
+    for number in 0..pattern.count() {
+        let queue = pattern.queue(number);
+        if hands.hand(number) != hand_of(hold, held, placements.min(20), &queue) {
+            return Ok(false);
+        }
+    }
+    Ok(true)
+}
+
+/// Patterns, what is held, and how many placements there are. One has more queues than a list has hands, and with some
+/// the hands end within the last elements, before them, or behind the queue.
+const QUEUES: &[(&str, Hold, Option<Piece>, u8)] = &[
+    ("", Hold::Allowed, Some(Piece::T), 1),
+    ("*p2,T,[LJ]", Hold::Allowed, None, 3),
+    ("*p2,[TIO]p2", Hold::Allowed, Some(Piece::S), 2),
+    ("*p2,[TIO]p2", Hold::Avoided, Some(Piece::S), 1),
+    ("[TIO]p3,*p2", Hold::Avoided, None, 5),
+    ("*p2,*p2,*p2", Hold::Allowed, Some(Piece::Z), 6),
+];
+
+#[test]
+fn hands_of_all_queues(rt: HostRuntime) {
+    for (text, hold, held, placements) in QUEUES {
+        let is_so = has_queue_hands(rt.alloc(), text, *hold, *held, *placements);
+        assert!(rt; is_so == Ok(true), "{text}");
+    }
 }

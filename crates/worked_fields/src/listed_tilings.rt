@@ -1,8 +1,9 @@
 // The tilings of small fields, and their pieces.
 use empty_cells::Empties;
+use pc_outside::NoMemory;
 use srs::{Piece, Placement, Rotation};
 use std::alloc::Global;
-use tiled_pieces::{Lister, StandingPieces};
+use tiled_pieces::{Lister, StandingPieces, TilingList};
 use well::Well;
 
 fn field(text: &[u8]) -> Well {
@@ -15,62 +16,115 @@ fn count(alloc: Global, cells: &Empties, supply: &[u8; 7], most: usize) -> Optio
     Some(list.tilings.len())
 }
 
+/// A question of how many tilings there are: at most so many pieces of each kind, how many are listed at most, and the
+/// answer.
+type Case = ([u8; 7], usize, Option<usize>);
+
+/// Whether these are the numbers of tilings of the cells.
+fn has_counts(alloc: Global, cells: &Empties, cases: &[Case]) -> bool {
+    for (supply, most, tilings) in cases {
+        if count(alloc, cells, supply, *most) != *tilings {
+            return false;
+        }
+    }
+    true
+}
+
+/// Two rows of four: two I, two O, two L or two J.
+const LOW: &[Case] = &[
+    ([2; 7], 9, Some(4)),
+    ([2; 7], 4, Some(4)),
+    ([2; 7], 3, None),
+    ([2, 1, 1, 2, 2, 1, 2], 9, Some(1)),
+    ([1; 7], 9, Some(0)),
+];
+
+/// Two columns of four rows, as pieces may have rows between theirs.
+const HIGH: &[Case] = &[
+    ([2, 0, 0, 0, 0, 0, 0], 9, Some(1)),
+    ([0, 0, 2, 0, 0, 0, 0], 9, Some(3)),
+];
+
+fn two_columns() -> Empties {
+    Empties::below(&field(b"XXXXXXXX__/XXXXXXXX__/XXXXXXXX__/XXXXXXXX__"), 4)
+}
+
 #[test]
 fn tilings_of_small_boxes(rt: HostRuntime) {
-    // Two rows of four: two I, two O, two L or two J.
     let low = Empties::below(&field(b"XXXXXX____/XXXXXX____"), 2);
-    assert!(rt; count(rt.alloc(), &low, &[2; 7], 9) == Some(4));
-    assert!(rt; count(rt.alloc(), &low, &[2; 7], 4) == Some(4));
-    assert!(rt; count(rt.alloc(), &low, &[2; 7], 3) == None);
-    assert!(rt; count(rt.alloc(), &low, &[2, 1, 1, 2, 2, 1, 2], 9) == Some(1));
-    assert!(rt; count(rt.alloc(), &low, &[1; 7], 9) == Some(0));
-    // Two columns of four rows, as pieces may have rows between theirs.
-    let high = field(b"XXXXXXXX__/XXXXXXXX__/XXXXXXXX__/XXXXXXXX__");
-    let high = Empties::below(&high, 4);
-    assert!(rt; count(rt.alloc(), &high, &[2, 0, 0, 0, 0, 0, 0], 9) == Some(1));
-    assert!(rt; count(rt.alloc(), &high, &[0, 0, 2, 0, 0, 0, 0], 9) == Some(3));
-    // Nine pieces can be listed, and ten cannot.
+    assert!(rt; has_counts(rt.alloc(), &low, LOW));
+    assert!(rt; has_counts(rt.alloc(), &two_columns(), HIGH));
+}
+
+#[test]
+fn nine_pieces_can_be_listed_and_ten_cannot(rt: HostRuntime) {
     let nine = Empties::below(&field(b"X_________/X_________/X_________/X_________"), 4);
     assert!(rt; count(rt.alloc(), &nine, &[9, 0, 0, 0, 0, 0, 0], 99) == Some(10));
     let ten = Empties::below(&Well::empty(), 4);
     assert!(rt; count(rt.alloc(), &ten, &[10, 0, 0, 0, 0, 0, 0], 99) == None);
-    // Two pieces that each have a row of the other between theirs cannot be put one after the other.
-    let ordered = Lister::new(rt.alloc()).ordered_tilings(
-        rt.alloc(),
-        &high,
-        &[0, 0, 2, 0, 0, 0, 0],
-        9,
-    );
-    assert!(rt; ordered.expect(&rt, "few tilings").tilings.len() == 2);
 }
 
 #[test]
-fn tilings_with_a_piece(rt: HostRuntime) {
-    let opener = field(b"XXXX____XX/XXXX___XXX/XXXX__XXXX/XXXX___XXX");
-    let cells = Empties::below(&opener, 4);
-    let mut lister = Lister::new(rt.alloc());
-    let list = lister.tilings(rt.alloc(), &cells, &[1, 0, 1, 0, 1, 0, 0], 9);
-    let list = list.expect(&rt, "few tilings");
-    assert!(rt; list.tilings.len() == 1);
+fn pieces_between_each_others_rows_have_no_order(rt: HostRuntime) {
+    let supply = [0, 0, 2, 0, 0, 0, 0];
+    let list = Lister::new(rt.alloc()).ordered_tilings(rt.alloc(), &two_columns(), &supply, 9);
+    assert!(rt; list.expect(&rt, "few tilings").tilings.len() == 2);
+}
+
+/// The empty cells of an opener.
+fn opener() -> Empties {
+    Empties::below(&field(b"XXXX____XX/XXXX___XXX/XXXX__XXXX/XXXX___XXX"), 4)
+}
+
+/// The one tiling of these cells by a T, an O and an I.
+fn opener_tilings(alloc: Global) -> Option<TilingList> {
+    let list = Lister::new(alloc).tilings(alloc, &opener(), &[1, 0, 1, 0, 1, 0, 0], 9)?;
+    if list.tilings.len() != 1 {
+        return None;
+    }
+    Some(list)
+}
+
+/// The cells of its T.
+fn cells_of_t() -> Empties {
     let placement = Placement {
         piece: Piece::T,
         rotation: Rotation::Right,
         x: 4,
         y: 1,
     };
-    let t = cells.without_cells(&cells.without(&placement));
-    assert!(rt; list.has(Piece::T, &t));
-    assert!(rt; !list.has(Piece::O, &t));
-    let mut standing = StandingPieces::new(rt.alloc(), Piece::T).expect(&rt, "memory");
-    standing.add(&list, 3).expect(&rt, "memory");
-    standing.add(&list, 5).expect(&rt, "memory");
-    assert!(rt; standing.lists_with(&t) == 0b10_1000);
-    assert!(rt; standing.lists_with(&cells) == 0);
-    let mut others = StandingPieces::new(rt.alloc(), Piece::O).expect(&rt, "memory");
-    others.add(&list, 3).expect(&rt, "memory");
-    assert!(rt; others.lists_with(&t) == 0);
+    let cells = opener();
+    cells.without_cells(&cells.without(&placement))
+}
+
+#[test]
+fn tilings_with_a_piece(rt: HostRuntime) {
+    let list = opener_tilings(rt.alloc()).expect(&rt, "few tilings");
+    let t = cells_of_t();
+    assert!(rt; list.has(Piece::T, &t) && !list.has(Piece::O, &t));
     let with = list.with(rt.alloc(), Piece::T, &t).expect(&rt, "memory");
-    assert!(rt; with.tilings.len() == 1);
     let without = list.with(rt.alloc(), Piece::I, &t).expect(&rt, "memory");
-    assert!(rt; without.tilings.is_empty());
+    assert!(rt; with.tilings.len() == 1 && without.tilings.is_empty());
+}
+
+/// In which of the lists 3 and 5, which are both this one, a piece of a kind has these cells.
+fn lists_with(
+    alloc: Global,
+    list: &TilingList,
+    piece: Piece,
+    cells: &Empties,
+) -> Result<u64, NoMemory> {
+    let mut standing = StandingPieces::new(alloc, piece)?;
+    standing.add(list, 3)?;
+    standing.add(list, 5)?;
+    Ok(standing.lists_with(cells))
+}
+
+#[test]
+fn lists_in_which_a_piece_stands(rt: HostRuntime) {
+    let list = opener_tilings(rt.alloc()).expect(&rt, "few tilings");
+    let t = cells_of_t();
+    assert!(rt; lists_with(rt.alloc(), &list, Piece::T, &t) == Ok(0b10_1000));
+    assert!(rt; lists_with(rt.alloc(), &list, Piece::T, &opener()) == Ok(0));
+    assert!(rt; lists_with(rt.alloc(), &list, Piece::O, &t) == Ok(0));
 }

@@ -50,9 +50,14 @@ fn keys_move_by_one(rt: HostRuntime) {
         let next = l_piece(*rotation, *x, *y);
         assert!(rt; step(&well, &rules, &state, *key) == Some(next), "{next:?}");
     }
+}
+
+#[test]
+fn no_key_moves_through_the_wall(rt: HostRuntime) {
+    let well = Well::empty();
     let wall = l_piece(Rotation::Spawn, 8, 2);
     assert!(rt; well.is_free(&wall));
-    assert!(rt; step(&well, &rules, &wall, Key::Right) == None);
+    assert!(rt; step(&well, &Rules::srs(), &wall, Key::Right) == None);
 }
 
 #[test]
