@@ -8,8 +8,6 @@ mod counts;
 #[cfg(test)]
 mod dead_questions;
 #[cfg(test)]
-mod hand_sets;
-#[cfg(test)]
 mod listed_tilings;
 #[cfg(test)]
 mod moves_and_keys;
