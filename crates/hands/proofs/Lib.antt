@@ -23,6 +23,5 @@ pub mod GatherSteps
 pub mod NumberedHands
 mod WeightLemmas
 mod AllowingLemmas
-mod ChoiceSteps
 mod QueueHandLemmas
 mod QueueHandSteps

@@ -1,12 +1,12 @@
 -- The queues of the last elements come behind each choice of the elements before them.
-use Rattle.std.proofs.Common.{◌≡◌, ℕ, mul-zero, zero, suc, ◌+◌, ◌-◌, ◌*◌, ◌/◌, ◌%◌, ◌^◌, ◌<◌, ◌≤◌, List, [], ◌∷◌, ◌++◌, Option, Some, None, drop, take, get_or, length, map, zero-mul, refl, ap, sym, subst, ◌∙◌, append_assoc, arith, length-append, All}
-use Rattle.std.specs.List.{flat_map, slice_get}
+use Rattle.std.proofs.Common.{◌≡◌, ℕ, mul-zero, zero, suc, ◌+◌, ◌-◌, ◌*◌, ◌/◌, ◌%◌, ◌^◌, ◌<◌, ◌≤◌, List, [], ◌∷◌, ◌++◌, Option, Some, None, drop, take, get_or, length, zero-mul, refl, ap, sym, subst, ◌∙◌, append_assoc, arith, length-append, All}
+use Rattle.std.specs.List.{slice_get}
 use Rattle.std.proofs.Math.Nat.{add-mul, add-mul-div_right, div-eq_of_lt, div-lt_iff_lt-mul, div-mul-le_self, mod-eq_of_lt, mod-lt, mul-add-mod_self_right, mul_assoc, one-mul, div-add-mod', add_comm, pow-le-pow_right, pow-succ'}
-use Rattle.std.proofs.lemmas.List.{get_or-append_right, get_or-map, get_or_append_left, length-map}
 use Rattle.std.proofs.lemmas.Option.{get_or_from_slice_get}
 use Rattle.srs.specs.declared.piece.Piece.{Piece}
 use Rattle.queue_pattern.specs.declared.element.Element.{Element}
-use Rattle.queue_pattern.specs.Queues.{choices, pieces_in, queue_count, queue_len, queues}
+use Rattle.queue_pattern.specs.Queues.{choices, pieces_in, queue_len, queues}
+use Rattle.queue_pattern.proofs.CallerLemmas.{queues-at, queues-times}
 use Rattle.hold_queue.specs.declared.hold.Hold.{Hold}
 use Rattle.hold_queue.specs.declared.hold.Hold.TheVariants.{Allowed, Avoided}
 use Rattle.hold_queue.specs.AtHand.{at_hand, taken_from}
@@ -15,33 +15,9 @@ use Rattle.hands.specs.QueueHands.{queue_hand}
 use Rattle.hands.specs.QueueLists.{AreSideBySide, IsLast}
 use Rattle.hands.proofs.NumberSteps.{number-small}
 
--- each choice before each queue
-abbrev joined : List (List Piece) → List (List Piece) → List (List Piece)
-joined fronts tails = flat_map (λ front. map (λ tail. front ++ tail) tails) fronts
-
-length-joined : (fronts tails : List (List Piece)) → length (joined fronts tails) ≡ length fronts * length tails
-length-joined [] tails = sym (zero-mul (length tails))
-length-joined (front ∷ fronts) tails =
-    let both = length-append (map (λ tail. front ++ tail) tails) (joined fronts tails) in
-    let first = length-map tails (λ tail. front ++ tail) in
-    let rest = length-joined fronts tails in
-    omega (arith, both, first, rest)
-
-joined-at : (fronts tails : List (List Piece)) (q r : ℕ) → q < length fronts → r < length tails
-    → get_or (joined fronts tails) (q * length tails + r) [] ≡ get_or fronts q [] ++ get_or tails r []
-joined-at [] tails q r q_within r_within = absurd (omega (arith, q_within))
-joined-at (front ∷ fronts) tails zero r q_within r_within =
-    ap (λ n. get_or (joined (front ∷ fronts) tails) n []) (let none = zero-mul (length tails) in omega (arith, none))
-    ∙ get_or_append_left (map (λ tail. front ++ tail) tails) (joined fronts tails) [] r (subst (λ n. r < n) (sym (length-map tails (λ tail. front ++ tail))) r_within)
-    ∙ get_or-map (λ tail. front ++ tail) tails r [] [] r_within
-joined-at (front ∷ fronts) tails (suc q) r q_within r_within =
-    get_or-append_right (map (λ tail. front ++ tail) tails) (joined fronts tails) (length tails) (suc q * length tails + r) [] (length-map tails (λ tail. front ++ tail)) (omega arith)
-    ∙ ap (λ n. get_or (joined fronts tails) n []) (omega arith)
-    ∙ joined-at fronts tails q r (omega (arith, q_within)) r_within
-
 -- Four queues of a list: the one with a number, the last one before it whose number is a multiple of a size, the one as
 -- far from the first as it is from that, and the first.
-pub record AreAround (list : List (List Piece)) (size number : ℕ) : Type 0 where
+record AreAround (list : List (List Piece)) (size number : ℕ) : Type 0 where
   pub front : List Piece
   pub tail : List Piece
   pub first_front : List Piece
@@ -66,14 +42,14 @@ around-none elements number within = record {
 }
 
 -- how a number of queues is a multiple of that of the queues of the last elements
-pub queues-multiple : (front : ℕ) (elements : List Element) → (m : ℕ) × (length (queues elements) ≡ m * length (queues (drop front elements)))
+queues-multiple : (front : ℕ) (elements : List Element) → (m : ℕ) × (length (queues elements) ≡ m * length (queues (drop front elements)))
 unfolding queues
 queues-multiple zero elements = (1, sym (one-mul (length (queues elements))))
 queues-multiple (suc front) [] = (1, refl)
 queues-multiple (suc front) (element ∷ elements) =
     let fronts = choices (pieces_in element.set) element.chosen in
     let rest = queues-multiple front elements in
-    (length fronts * rest.0, length-joined fronts (queues elements) ∙ ap (λ n. length fronts * n) rest.1 ∙ sym (mul_assoc (length fronts) rest.0 (length (queues (drop front elements)))))
+    (length fronts * rest.0, queues-times element elements ∙ ap (λ n. length fronts * n) rest.1 ∙ sym (mul_assoc (length fronts) rest.0 (length (queues (drop front elements)))))
 
 -- The numbers of the four queues where each of a list is put before each of others.
 record ArePlaced (fronts_len others size m number : ℕ) : Type 0 where
@@ -124,13 +100,12 @@ around-more front element elements number some within rest =
     let others = length (queues elements) in
     let size = length (queues (drop front elements)) in
     let multiple = queues-multiple front elements in
-    let numbers = placed (length fronts) others size multiple.0 number some multiple.1 (subst (λ n. number < n) (length-joined fronts (queues elements)) within) in
+    let numbers = placed (length fronts) others size multiple.0 number some multiple.1 (subst (λ n. number < n) (queues-times element elements) within) in
     let four = rest (number % others) numbers.r_within in
     let first_size : (number % others) % size < others = omega (arith, mod-le (number % others) size, numbers.r_within) in
     let last_size : (number % others) / size * size < others = omega (arith, div-mul-le_self (number % others) size, numbers.r_within) in
     let first_within : 0 < length fronts = omega (arith, numbers.q_within) in
-    let at : (q r : ℕ) → q < length fronts → r < others → get_or (queues (element ∷ elements)) (q * others + r) [] ≡ get_or fronts q [] ++ get_or (queues elements) r [] =
-    λ q r q_within r_within. joined-at fronts (queues elements) q r q_within r_within in
+    let at = queues-at element elements in
     record {
       front = get_or fronts (number / others) [] ++ four.front;
       tail = four.tail;
@@ -158,7 +133,7 @@ around-more front element elements number some within rest =
     mod-le n m = omega (arith, div-add-mod' n m)
 
 -- where the last elements have queues, each queue has its four
-pub around : (front : ℕ) (elements : List Element) (number : ℕ) → 0 < length (queues (drop front elements)) → number < length (queues elements)
+around : (front : ℕ) (elements : List Element) (number : ℕ) → 0 < length (queues (drop front elements)) → number < length (queues elements)
     → AreAround (queues elements) (length (queues (drop front elements))) number
 around zero elements number some within = around-none elements number within
 around (suc front) [] number some within = around-none [] number within
@@ -232,12 +207,12 @@ four-hands hold held count list size number four same =
 
 -- the hands are side by side
 pub beside : (hold : Hold) (held : Option Piece) (count : ℕ) (elements : List Element) (size : ℕ) → IsLast elements size → 0 < size
-    → ((others : List Element) → length (queues others) ≡ queue_count others) → All (λ queue. length queue ≡ queue_len elements) (queues elements)
+    → All (λ queue. length queue ≡ queue_len elements) (queues elements)
     → AreSideBySide hold held count elements size
 unfolding queue_hand
-beside hold held count elements size last some counted as_long = record {
+beside hold held count elements size last some as_long = record {
   each = λ number within.
-      let is : length (queues (drop last.front elements)) ≡ size = counted (drop last.front elements) ∙ sym last.is in
+      let is = sym last.is in
       let four : AreAround (queues elements) size number = subst (λ n. AreAround (queues elements) n number) is (around last.front elements number (omega (arith, is, some)) within) in
       four-hands hold held count (queues elements) size number four (same-long elements size number four within as_long);
 }

@@ -49,7 +49,7 @@ listing-ends hold held count elements step number end hands some past state = re
 }
 
 -- the hand at an index of such a list
-pub hand-there : (hold : Hold) (held : Option Piece) (count : ℕ) (elements : List Element) (step end i result : ℕ) (hands : List ℕ) → AreHandsBy hold held count elements step end hands
+hand-there : (hold : Hold) (held : Option Piece) (count : ℕ) (elements : List Element) (step end i result : ℕ) (hands : List ℕ) → AreHandsBy hold held count elements step end hands
     → i < length hands → result ≡ get_or hands i result → result ≡ queue_hand hold held count elements (i * step)
 hand-there hold held count elements step end i result hands are within read = get_or_read_under hands i (length hands) result 0 read within refl ∙ are.each i within
 
@@ -62,12 +62,12 @@ tail-within hands number =
     let below = hands.first_hands.all (number % hands.size) (mod-lt number hands.some) in
     omega (arith, below)
 
-pub front-read : (hands : QueueHands) (number front : ℕ) → number < length (queues (elements_of hands.pattern))
+front-read : (hands : QueueHands) (number front : ℕ) → number < length (queues (elements_of hands.pattern))
     → front ≡ get_or hands.fronts.items (number / hands.size) front → front ≡ hand_in hands (number / hands.size * hands.size)
 front-read hands number front within read =
     hand-there hands.hold hands.held hands.placements (elements_of hands.pattern) hands.size _ (number / hands.size) front hands.fronts.items hands.front_hands (hands.front_hands.all number within) read
 
-pub tail-read : (hands : QueueHands) (number tail : ℕ) → tail ≡ get_or hands.tails.items (number % hands.size) tail → tail ≡ hand_in hands (number % hands.size)
+tail-read : (hands : QueueHands) (number tail : ℕ) → tail ≡ get_or hands.tails.items (number % hands.size) tail → tail ≡ hand_in hands (number % hands.size)
 tail-read hands number tail read =
     hand-there hands.hold hands.held hands.placements (elements_of hands.pattern) 1 _ (number % hands.size) tail hands.tails.items hands.first_hands (tail-within hands number) read
     ∙ ap (hand_in hands) (mul-one (number % hands.size))

@@ -2,14 +2,14 @@
 use Rattle.std.specs.Prelude.{◌≡◌, ℕ, ◌+◌, ◌*◌, ◌/◌, ◌%◌, ◌<◌, Option, List, drop, length, slice_index}
 use Rattle.srs.specs.declared.piece.Piece.{Piece}
 use Rattle.queue_pattern.specs.declared.element.Element.{Element}
-use Rattle.queue_pattern.specs.Queues.{queue_count, queues}
+use Rattle.queue_pattern.specs.Queues.{queues}
 use Rattle.hold_queue.specs.declared.hold.Hold.{Hold}
 use Rattle.hands.specs.QueueHands.{queue_hand}
 
 -- some last elements have so many queues
 pub record IsLast (elements : List Element) (size : ℕ) : Type 0 where
   pub front : ℕ
-  pub is : size ≡ queue_count (drop front elements)
+  pub is : size ≡ length (queues (drop front elements))
 
 -- the hands of the queues with the numbers 0, step, twice the step and so on, as far as a number
 pub record AreHandsBy (hold : Hold) (held : Option Piece) (count : ℕ) (elements : List Element) (step end : ℕ)

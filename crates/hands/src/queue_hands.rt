@@ -1,64 +1,38 @@
 // The hands of all queues of a pattern. The queues of the last elements come behind each choice of the elements before
 // them, in the same order. So two short lists tell the hands of all queues.
-ghost use Rattle.std.specs.Prelude.{◌≡◌, ◌≤◌, ◌<◌, IfOk, length};
+ghost use Rattle.std.specs.Prelude.{◌≡◌, ℕ, ◌≤◌, ◌<◌, IfOk, drop, length};
 ghost use Rattle.queue_pattern.specs.Pattern.{elements_of};
-ghost use Rattle.queue_pattern.specs.Queues.{falling_factor, pieces_in, queues};
+ghost use Rattle.queue_pattern.specs.Queues.{queues};
 ghost use Rattle.hands.specs.QueueHands.{queue_hand};
 ghost use Rattle.hands.specs.QueueLists.{AreHandsBy, AreSideBySide, IsLast};
 
 use crate::hand::hand_of;
 use hold_queue::Hold;
 use pc_outside::NoMemory;
-use queue_pattern::laws::{queues_are_as_long, queues_are_counted};
-use queue_pattern::{Element, Pattern};
+use queue_pattern::Pattern;
+use queue_pattern::laws::queues_are_as_long;
 use srs::Piece;
 use std::alloc::Global;
 
 /// The most queues of the last elements whose hands are listed.
 const MOST_TAILS: u32 = 65_536;
 
-/// How many pieces an element's set has.
-#[tactic(auto, unfolding(queue_pattern::specs::Queues::pieces_in))]
-fn size(element: Element) -> u8
-    ensures number { result ≡ length (pieces_in element.set) }
-    ensures few { result ≤ 7 }
-{
-    Piece::ALL
-        .iter()
-        .filter(|piece| element.has(**piece))
-        .count() as u8
-}
-
-/// In how many ways an element's pieces are chosen.
-fn choice_count(element: Element) -> u32
-    ensures value { result ≡ falling_factor (length (pieces_in element.set)) element.chosen }
-    ensures few { result ≤ 5040 }
-{
-    let mut left = size(element);
-    let mut count = 1;
-    for _ in 0..element.chosen {
-        count *= u32::from(left);
-        left = left.saturating_sub(1);
-    }
-    count
-}
-
-/// How many queues some last elements have: as many elements as have at most 65,536 queues together.
+/// How many queues the last elements have: as many elements as have at most 65,536 queues together.
 fn tail_count(pattern: &Pattern) -> u32
     ensures last { IsLast (elements_of pattern.now) result }
     ensures some { 0 < result }
+    ensures few { result ≤ 65536 }
     ensures within { result ≤ length (queues (elements_of pattern.now)) }
+    ensures most { (front : ℕ) → length (queues (drop front (elements_of pattern.now))) ≤ 65536
+        → length (queues (drop front (elements_of pattern.now))) ≤ result }
 {
-    queues_are_counted();
-    let mut count = 1;
-    for index in (0..pattern.elements()).rev() {
-        let more = count * choice_count(pattern.element(index));
-        if more > MOST_TAILS {
+    for first in 0..pattern.elements() {
+        let count = pattern.count_from(first);
+        if count <= MOST_TAILS {
             return count;
         }
-        count = more;
     }
-    count
+    1
 }
 
 /// The hands of the queues whose numbers are multiples of a step, below a number.
@@ -125,7 +99,6 @@ impl QueueHands {
         ensures held { IfOk result (λ hands. hands.held ≡ held) }
         ensures placements { IfOk result (λ hands. hands.placements ≡ placements) }
     {
-        queues_are_counted();
         queues_are_as_long();
         let count = pattern.count();
         let size = tail_count(pattern);

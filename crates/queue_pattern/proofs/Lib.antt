@@ -19,6 +19,7 @@ mod Standing
 mod SingleLemmas
 mod OneQueue
 mod PatternFacts
+mod LastElements
 mod RisingQueues
 mod ReadIsSpelled
 mod SpelledIsRead

@@ -35,7 +35,7 @@ pub struct Pattern {
 }
 
 impl Pattern {
-    ghost use Rattle.std.specs.Prelude.{IfOk, IfErr, Ok, Err, Some, slice_get, List, [], ◌++◌, map};
+    ghost use Rattle.std.specs.Prelude.{IfOk, IfErr, Ok, Err, Some, slice_get, List, [], ◌++◌, drop, map};
     ghost use Rattle.queue_pattern.specs.Builder.{Holds};
     ghost use Rattle.queue_pattern.specs.Grammar.{elements, limited, set_of};
     ghost use Rattle.queue_pattern.specs.Pattern.{elements_of};
@@ -134,6 +134,19 @@ impl Pattern {
             }
         }
         queue
+    }
+
+    /// How many queues the elements from this number on stand for, counted from 0.
+    #[tactic(auto, unfolding(crate::specs::Pattern::elements_of))]
+    pub fn count_from(&self, first: u8) -> u32
+        requires { first ≤ length (elements_of self.now) }
+        ensures { result ≡ length (queues (drop first (elements_of self.now))) }
+    {
+        let mut builder = Builder::new();
+        'elements: for element in &self.elements[first as usize..self.number as usize] {
+            builder.add(*element);
+        }
+        builder.count
     }
 
     /// How many elements the pattern has.

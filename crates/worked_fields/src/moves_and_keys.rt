@@ -54,7 +54,7 @@ fn keys_move_by_one(rt: HostRuntime) {
 
 #[test]
 fn no_key_moves_through_the_wall(rt: HostRuntime) {
-    let well = Well::empty();
+    let well = Well::from_rows(b"XXXXXX____/XXXXXX____").expect(&rt, "a rows text");
     let wall = l_piece(Rotation::Spawn, 8, 2);
     assert!(rt; well.is_free(&wall));
     assert!(rt; step(&well, &Rules::srs(), &wall, Key::Right) == None);

@@ -1,24 +1,41 @@
--- Element after element is put in front.
-use Rattle.std.proofs.Common.{arith}
+-- The first last elements that are few enough have the most queues.
+use Rattle.std.proofs.Common.{◌≡◌, ◌≤◌, ◌∙◌, List, ap, arith, drop, inl, inr, length, ℕ}
+use Rattle.std.proofs.lemmas.Bool.{cases_lt}
+use Rattle.std.proofs.lemmas.List.{drop_all}
+use Rattle.queue_pattern.specs.declared.element.Element.{Element}
 use Rattle.queue_pattern.specs.Pattern.{elements_of}
-use Rattle.queue_pattern.proofs.CallerLemmas.{pattern-some}
-use Rattle.hands.proofs.ChoiceSteps.{count-more, count-starts, tail-small}
+use Rattle.queue_pattern.specs.Queues.{queues}
+use Rattle.queue_pattern.proofs.CallerLemmas.{last-fewer, last-some, queues-none}
 use Rattle.hands.proofs.queue_hands.tail_count.Goals as goal
 
-pub loop-index-init : goal.loop-index-init
-loop-index-init c = (count-starts (elements_of c.args.pattern.now) c.elements-index.result (omega (arith, c.elements-index.ensures.number)), omega arith)
+-- no elements have one queue, the empty one
+none-left : (elements : List Element) (front : ℕ) → length elements ≤ front → length (queues (drop front elements)) ≡ 1
+none-left elements front past = ap (λ l. length (queues l)) (drop_all front elements past) ∙ ap length queues-none
 
-pub returns-then-more-gt-MOST_TAILS-clause-within : goal.returns-then-more-gt-MOST_TAILS-clause-within
-returns-then-more-gt-MOST_TAILS-clause-within c =
-    (tail-small (elements_of c.args.pattern.now) c.loop-index.index c.loop-index.count (pattern-some c.args.pattern.now) (c.queues_are_counted.ensures (elements_of c.args.pattern.now)) c.loop-index.invariant.0).1
+pub returns-then-count-le-MOST_TAILS-clause-some : goal.returns-then-count-le-MOST_TAILS-clause-some
+returns-then-count-le-MOST_TAILS-clause-some c =
+    let some = last-some c.args.pattern.now c.loop-first.first in
+    omega (arith, some, c.count_from-count.ensures)
 
-pub loop-index-preserved : goal.loop-index-preserved
-loop-index-preserved c = (
-  count-more (elements_of c.args.pattern.now) c.loop-index.index c.loop-index.count c.choice_count.result c.element.result c.loop-index-test.true
-      (omega (arith, c.loop-index.auto.index, c.elements-index.ensures.number)) c.element.ensures c.choice_count.ensures.value c.loop-index.invariant.0,
-  c.if-more-gt-MOST_TAILS.false,
-)
+pub returns-then-count-le-MOST_TAILS-clause-most : goal.returns-then-count-le-MOST_TAILS-clause-most
+returns-then-count-le-MOST_TAILS-clause-most c = λ front few. elim (cases_lt front c.loop-first.first) [
+  | inl before ↦ let more = c.loop-first.invariant front before in absurd (omega (arith, few, more))
+  | inr behind ↦ let fewer = last-fewer c.args.pattern.now c.loop-first.first front behind in omega (arith, fewer, c.count_from-count.ensures)
+]
 
-pub returns-clause-some : goal.returns-clause-some
-returns-clause-some c =
-    (tail-small (elements_of c.args.pattern.now) c.loop-index.index c.loop-index.count (pattern-some c.args.pattern.now) (c.queues_are_counted.ensures (elements_of c.args.pattern.now)) c.loop-index.invariant.0).0
+pub returns-clause-last : goal.returns-clause-last
+returns-clause-last c =
+    let elements = elements_of c.args.pattern.now in
+    let one = none-left elements (length elements) (omega arith) in
+    record { front = length elements; is = omega (arith, one) }
+
+pub returns-clause-within : goal.returns-clause-within
+returns-clause-within c = let some = last-some c.args.pattern.now 0 in omega (arith, some)
+
+pub returns-clause-most : goal.returns-clause-most
+returns-clause-most c = λ front few. elim (cases_lt front c.loop-first.first) [
+  | inl before ↦ let more = c.loop-first.invariant front before in absurd (omega (arith, few, more))
+  | inr behind ↦
+      let one = none-left (elements_of c.args.pattern.now) front (omega (arith, behind, c.loop-first-test.false, c.elements-first-end.ensures.number)) in
+      omega (arith, one)
+]

@@ -1,7 +1,7 @@
-use Rattle.std.proofs.Common.{◌≡◌, ◌≤◌, drop}
+use Rattle.std.proofs.Common.{ℕ, ◌<◌, drop, length}
 use Rattle.queue_pattern.specs.Pattern.{elements_of}
-use Rattle.queue_pattern.specs.Queues.{queue_count}
+use Rattle.queue_pattern.specs.Queues.{queues}
 use Rattle.hands.proofs.queue_hands.tail_count.Given as goal
 
-abbrev pub invariant-loop-index : goal.invariant-loop-index
-invariant-loop-index l = (l.count ≡ queue_count (drop l.index (elements_of l.pattern))) × (l.count ≤ 65536)
+abbrev pub invariant-loop-first : goal.invariant-loop-first
+invariant-loop-first l = (front : ℕ) → front < l.first → 65536 < length (queues (drop front (elements_of l.pattern)))

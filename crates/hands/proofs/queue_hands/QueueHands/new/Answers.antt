@@ -11,7 +11,7 @@ invariant_of-result c = record {
   some = c.tail_count-size.ensures.some;
   beside =
       beside c.args.hold c.args.held c.args.placements (elements_of c.args.pattern.now) c.tail_count-size.result c.tail_count-size.ensures.last c.tail_count-size.ensures.some
-      c.queues_are_counted.ensures (c.queues_are_as_long.ensures (elements_of c.args.pattern.now));
+      (c.queues_are_as_long.ensures (elements_of c.args.pattern.now));
   first_hands = c.in_ok-tails.ensures;
   front_hands =
       subst (λ n. AreHandsBy c.args.hold c.args.held c.args.placements (elements_of c.args.pattern.now) c.tail_count-size.result n c.in_ok-fronts.fronts.items) c.count-count.ensures.number c.in_ok-fronts.ensures;
