@@ -213,7 +213,7 @@ unfolding queue_hand
 beside hold held count elements size last some as_long = record {
   each = λ number within.
       let is = sym last.is in
-      let four : AreAround (queues elements) size number = subst (λ n. AreAround (queues elements) n number) is (around last.front elements number (omega (arith, is, some)) within) in
+      let four : AreAround (queues elements) size number = subst (λ n. AreAround (queues elements) n number) is (around last.first elements number (omega (arith, is, some)) within) in
       four-hands hold held count (queues elements) size number four (same-long elements size number four within as_long);
 }
 

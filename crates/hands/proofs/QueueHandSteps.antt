@@ -13,23 +13,27 @@ use Rattle.hands.specs.QueueHands.{queue_hand}
 use Rattle.hands.specs.QueueLists.{AreHandsBy}
 use Rattle.hands.proofs.QueueHandLemmas.{hand-small}
 
--- the hands of the queues below a number that is a multiple of the step
-pub record Listing (hold : Hold) (held : Option Piece) (count : ℕ) (elements : List Element) (step number : ℕ) (hands : List ℕ) : Type 0 where
+-- the hands of the queues below a number that is a multiple of the step, and no more than a step behind the end
+pub record Listing (hold : Hold) (held : Option Piece) (count : ℕ) (elements : List Element) (step end number : ℕ) (hands : List ℕ) : Type 0 where
   pub is : number ≡ length hands * step
+  pub before : number < end + step
   pub each : (i : ℕ) → i < length hands → get_or hands i 0 ≡ queue_hand hold held count elements (i * step)
 
-pub listing-starts : (hold : Hold) (held : Option Piece) (count : ℕ) (elements : List Element) (step : ℕ) (hands : List ℕ) → hands ≡ [] → Listing hold held count elements step 0 hands
-listing-starts hold held count elements step hands none = record {
+pub listing-starts : (hold : Hold) (held : Option Piece) (count : ℕ) (elements : List Element) (step end : ℕ) (hands : List ℕ) → 0 < step → hands ≡ []
+    → Listing hold held count elements step end 0 hands
+listing-starts hold held count elements step end hands some none = record {
   is = sym (zero-mul step) ∙ ap (λ (l : List ℕ). length l * step) (sym none);
+  before = omega (arith, some);
   each = λ i within. absurd (omega (arith, within, ap length none));
 }
 
-pub listing-more : (hold : Hold) (held : Option Piece) (count : ℕ) (elements : List Element) (step number hand : ℕ) (hands : List ℕ)
-    → hand ≡ queue_hand hold held count elements number → Listing hold held count elements step number hands
-    → Listing hold held count elements step (number + step) (hands ++ hand ∷ [])
-listing-more hold held count elements step number hand hands hand_is state =
+pub listing-more : (hold : Hold) (held : Option Piece) (count : ℕ) (elements : List Element) (step end number hand : ℕ) (hands : List ℕ)
+    → number < end → hand ≡ queue_hand hold held count elements number → Listing hold held count elements step end number hands
+    → Listing hold held count elements step end (number + step) (hands ++ hand ∷ [])
+listing-more hold held count elements step end number hand hands before hand_is state =
     let size = length-append hands (hand ∷ []) in record {
       is = more (length hands) (length (hands ++ hand ∷ [])) state.is size;
+      before = omega (arith, before);
       each = λ i within. elim (cases_lt i (length hands)) [
         | inl before ↦ get_or_append_left hands (hand ∷ []) 0 i before ∙ state.each i before
         | inr last ↦
@@ -41,11 +45,12 @@ listing-more hold held count elements step number hand hands hand_is state =
     more : (a b : ℕ) → number ≡ a * step → b ≡ a + 1 → number + step ≡ b * step
     more a b is size = (λ i. is i + sym (one-mul step) i) ∙ sym (add-mul a 1 step) ∙ ap (λ n. n * step) (sym size)
 
-pub listing-ends : (hold : Hold) (held : Option Piece) (count : ℕ) (elements : List Element) (step number end : ℕ) (hands : List ℕ)
-    → 0 < step → end ≤ number → Listing hold held count elements step number hands → AreHandsBy hold held count elements step end hands
-listing-ends hold held count elements step number end hands some past state = record {
+pub listing-ends : (hold : Hold) (held : Option Piece) (count : ℕ) (elements : List Element) (step end number : ℕ) (hands : List ℕ)
+    → 0 < step → end ≤ number → Listing hold held count elements step end number hands → AreHandsBy hold held count elements step end hands
+listing-ends hold held count elements step end number hands some past state = record {
   each = state.each;
   all = λ k below. (div-lt_iff_lt-mul {k = step} {x = k} {y = length hands} some).1 (subst (λ n. k < n) state.is (omega (arith, below, past)));
+  few = subst (λ n. n < end + step) state.is state.before;
 }
 
 -- the hand at an index of such a list

@@ -21,10 +21,10 @@ const MOST_TAILS: u32 = 65_536;
 fn tail_count(pattern: &Pattern) -> u32
     ensures last { IsLast (elements_of pattern.now) result }
     ensures some { 0 < result }
-    ensures few { result ≤ 65536 }
+    ensures few { result ≤ MOST_TAILS }
     ensures within { result ≤ length (queues (elements_of pattern.now)) }
-    ensures most { (front : ℕ) → length (queues (drop front (elements_of pattern.now))) ≤ 65536
-        → length (queues (drop front (elements_of pattern.now))) ≤ result }
+    ensures most { (first : ℕ) → length (queues (drop first (elements_of pattern.now))) ≤ MOST_TAILS
+        → length (queues (drop first (elements_of pattern.now))) ≤ result }
 {
     for first in 0..pattern.elements() {
         let count = pattern.count_from(first);
@@ -80,8 +80,8 @@ pub struct QueueHands {
     ghost some: { 0 < size },
     ghost beside: { AreSideBySide hold held placements (elements_of pattern) size },
     ghost first_hands: { AreHandsBy hold held placements (elements_of pattern) 1 size tails.items },
-    ghost front_hands: { AreHandsBy hold held placements (elements_of pattern) size (length (queues (elements_of pattern)))
-        fronts.items },
+    ghost front_hands: { AreHandsBy hold held placements (elements_of pattern) size
+        (length (queues (elements_of pattern))) fronts.items },
 }
 
 impl QueueHands {
@@ -119,7 +119,8 @@ impl QueueHands {
     #[inline(always)]
     pub fn hand(&self, number: u32) -> u64
         requires { number < length (queues (elements_of self.now.pattern)) }
-        ensures { result ≡ queue_hand self.now.hold self.now.held self.now.placements (elements_of self.now.pattern) number }
+        ensures { result ≡ queue_hand self.now.hold self.now.held self.now.placements
+            (elements_of self.now.pattern) number }
     {
         let front = self.fronts[(number / self.size) as usize];
         let tail = self.tails[(number % self.size) as usize];

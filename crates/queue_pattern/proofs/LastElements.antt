@@ -59,13 +59,6 @@ sound-last elements zero sound = sound
 sound-last [] (suc first) sound = refl
 sound-last (element ∷ elements) (suc first) sound = sound-last elements first (and_parts (is_sound element) (list_all is_sound elements) sound).1
 
-pub sound-at : (elements : List Element) (index : ℕ) (element : Element) → index < length elements → list_all is_sound elements ≡ true
-    → is_sound (get_or elements index element) ≡ true
-sound-at [] index element within sound = absurd (omega (arith, within))
-sound-at (first ∷ elements) zero element within sound = (and_parts (is_sound first) (list_all is_sound elements) sound).0
-sound-at (first ∷ elements) (suc index) element within sound =
-    sound-at elements index element (omega (arith, within)) (and_parts (is_sound first) (list_all is_sound elements) sound).1
-
 fewer-behind : (elements : List Element) (first : ℕ) → list_all is_sound elements ≡ true → queue_count (drop first elements) ≤ queue_count elements
 unfolding queue_count
 fewer-behind elements zero sound = omega arith

@@ -1,10 +1,10 @@
 -- What holds of each pattern.
-use Rattle.std.proofs.Common.{◌≡◌, ◌<◌, ◌≤◌, List, [], ◌∷◌, length, map, subst, sym, ◌∙◌}
+use Rattle.std.proofs.Common.{◌≡◌, ◌<◌, ◌≤◌, List, [], ◌∷◌, length, map, subst}
 use Rattle.srs.specs.declared.piece.Piece.{Piece}
 use Rattle.queue_pattern.specs.declared.pattern.Pattern.{Pattern}
 use Rattle.queue_pattern.specs.Pattern.{elements_of}
 use Rattle.queue_pattern.specs.Queues.{queues, queue_len}
-use Rattle.queue_pattern.proofs.QueueLemmas.{length-queues}
+use Rattle.queue_pattern.proofs.LastElements.{last-some}
 use Rattle.queue_pattern.proofs.OneQueue.{one_queue-singles}
 use Rattle.queue_pattern.proofs.SingleLemmas.{single}
 
@@ -15,8 +15,7 @@ pattern-short pattern = subst (λ n. n ≤ 22) pattern.len pattern.short
 
 -- it has a queue
 pub pattern-some : (pattern : Pattern) → 0 < length (queues (elements_of pattern))
-unfolding elements_of
-pattern-some pattern = subst (λ n. 0 < n) (pattern.counted ∙ sym (length-queues (elements_of pattern))) pattern.some
+pattern-some pattern = last-some pattern 0
 
 -- where it stands for one queue alone, its elements are the pieces of this queue
 pub pattern-alone : (pattern : Pattern) (queue : List Piece) → queues (elements_of pattern) ≡ queue ∷ [] → elements_of pattern ≡ map single queue

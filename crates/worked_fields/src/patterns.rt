@@ -37,6 +37,9 @@ fn queues_are_counted(rt: HostRuntime) {
     for (text, queues, pieces) in COUNTS {
         assert!(rt; has_counts(text, *queues, *pieces), "{text}");
     }
+    let pattern = Pattern::parse("*p7,*p4").expect(&rt, "a pattern");
+    assert!(rt; pattern.elements() == 2);
+    assert!(rt; pattern.count_from(1) == 840 && pattern.count_from(2) == 1);
 }
 
 fn has_queue(pattern: &Pattern, number: u32, pieces: &[Piece]) -> bool {

@@ -4,4 +4,4 @@ use Rattle.queue_pattern.specs.Queues.{queues}
 use Rattle.hands.proofs.queue_hands.tail_count.Given as goal
 
 abbrev pub invariant-loop-first : goal.invariant-loop-first
-invariant-loop-first l = (front : ℕ) → front < l.first → 65536 < length (queues (drop front (elements_of l.pattern)))
+invariant-loop-first l = (first : ℕ) → first < l.first → 65536 < length (queues (drop first (elements_of l.pattern)))
