@@ -57,15 +57,6 @@ look_up() {
         [ "$option" = "$2" ] || continue
         values=$values_there preset=$preset_there
     done
-    [ -n "$preset" ] || know_preset "$2"
-}
-
-# preset: which options are required.
-know_preset() {
-    case "$1" in
-    --rows | --tetfu) preset=field ;;
-    --patterns | --number | --pages) preset=required ;;
-    esac
 }
 
 # takes: what may follow an option.
@@ -91,10 +82,6 @@ say_form() {
     --patterns) takes="the queues, as TIO or '*p4'" ;;
     --kicks) takes="a table of offsets, as \"$tool kicks\" writes it" ;;
     --after) takes="a line that path listed, between quotes" ;;
-    --page | --pages) takes="a number from 1 to 10000" ;;
-    --limit) takes="a number from 1 to 1000000000" ;;
-    --failed) takes="a number from 0 to 10000000" ;;
-    --number) takes="a number from 0 to 4294967295" ;;
     *) takes="a value" ;;
     esac
 }

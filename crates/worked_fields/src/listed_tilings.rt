@@ -6,8 +6,9 @@ use std::alloc::Global;
 use tiled_pieces::{Lister, StandingPieces, TilingList};
 use well::Well;
 
-fn field(text: &[u8]) -> Well {
-    Well::from_rows(text).unwrap_or(Well::empty())
+/// The empty cells of a field's four lowest rows.
+fn low_empties(text: &[u8]) -> Option<Empties> {
+    Some(Empties::below(&Well::from_rows(text).ok()?, 4))
 }
 
 /// How many tilings of the cells there are, with at most so many pieces of each kind. At most `most` are listed.
@@ -45,20 +46,22 @@ const HIGH: &[Case] = &[
     ([0, 0, 2, 0, 0, 0, 0], 9, Some(3)),
 ];
 
-fn two_columns() -> Empties {
-    Empties::below(&field(b"XXXXXXXX__/XXXXXXXX__/XXXXXXXX__/XXXXXXXX__"), 4)
+fn two_columns() -> Option<Empties> {
+    low_empties(b"XXXXXXXX__/XXXXXXXX__/XXXXXXXX__/XXXXXXXX__")
 }
 
 #[test]
 fn tilings_of_small_boxes(rt: HostRuntime) {
-    let low = Empties::below(&field(b"XXXXXX____/XXXXXX____"), 2);
-    assert!(rt; has_counts(rt.alloc(), &low, LOW));
-    assert!(rt; has_counts(rt.alloc(), &two_columns(), HIGH));
+    let low = Well::from_rows(b"XXXXXX____/XXXXXX____").expect(&rt, "a rows text");
+    assert!(rt; has_counts(rt.alloc(), &Empties::below(&low, 2), LOW));
+    let high = two_columns().expect(&rt, "a rows text");
+    assert!(rt; has_counts(rt.alloc(), &high, HIGH));
 }
 
 #[test]
 fn nine_pieces_can_be_listed_and_ten_cannot(rt: HostRuntime) {
-    let nine = Empties::below(&field(b"X_________/X_________/X_________/X_________"), 4);
+    let nine = low_empties(b"X_________/X_________/X_________/X_________");
+    let nine = nine.expect(&rt, "a rows text");
     assert!(rt; count(rt.alloc(), &nine, &[9, 0, 0, 0, 0, 0, 0], 99) == Some(10));
     let ten = Empties::below(&Well::empty(), 4);
     assert!(rt; count(rt.alloc(), &ten, &[10, 0, 0, 0, 0, 0, 0], 99) == None);
@@ -67,18 +70,19 @@ fn nine_pieces_can_be_listed_and_ten_cannot(rt: HostRuntime) {
 #[test]
 fn pieces_between_each_others_rows_have_no_order(rt: HostRuntime) {
     let supply = [0, 0, 2, 0, 0, 0, 0];
-    let list = Lister::new(rt.alloc()).ordered_tilings(rt.alloc(), &two_columns(), &supply, 9);
+    let cells = two_columns().expect(&rt, "a rows text");
+    let list = Lister::new(rt.alloc()).ordered_tilings(rt.alloc(), &cells, &supply, 9);
     assert!(rt; list.expect(&rt, "few tilings").tilings.len() == 2);
 }
 
 /// The empty cells of an opener.
-fn opener() -> Empties {
-    Empties::below(&field(b"XXXX____XX/XXXX___XXX/XXXX__XXXX/XXXX___XXX"), 4)
+fn opener() -> Option<Empties> {
+    low_empties(b"XXXX____XX/XXXX___XXX/XXXX__XXXX/XXXX___XXX")
 }
 
 /// The one tiling of these cells by a T, an O and an I.
 fn opener_tilings(alloc: Global) -> Option<TilingList> {
-    let list = Lister::new(alloc).tilings(alloc, &opener(), &[1, 0, 1, 0, 1, 0, 0], 9)?;
+    let list = Lister::new(alloc).tilings(alloc, &opener()?, &[1, 0, 1, 0, 1, 0, 0], 9)?;
     if list.tilings.len() != 1 {
         return None;
     }
@@ -86,21 +90,21 @@ fn opener_tilings(alloc: Global) -> Option<TilingList> {
 }
 
 /// The cells of its T.
-fn cells_of_t() -> Empties {
+fn cells_of_t() -> Option<Empties> {
     let placement = Placement {
         piece: Piece::T,
         rotation: Rotation::Right,
         x: 4,
         y: 1,
     };
-    let cells = opener();
-    cells.without_cells(&cells.without(&placement))
+    let cells = opener()?;
+    Some(cells.without_cells(&cells.without(&placement)))
 }
 
 #[test]
 fn tilings_with_a_piece(rt: HostRuntime) {
     let list = opener_tilings(rt.alloc()).expect(&rt, "few tilings");
-    let t = cells_of_t();
+    let t = cells_of_t().expect(&rt, "a rows text");
     assert!(rt; list.has(Piece::T, &t) && !list.has(Piece::O, &t));
     let with = list.with(rt.alloc(), Piece::T, &t).expect(&rt, "memory");
     let without = list.with(rt.alloc(), Piece::I, &t).expect(&rt, "memory");
@@ -123,8 +127,9 @@ fn lists_with(
 #[test]
 fn lists_in_which_a_piece_stands(rt: HostRuntime) {
     let list = opener_tilings(rt.alloc()).expect(&rt, "few tilings");
-    let t = cells_of_t();
+    let t = cells_of_t().expect(&rt, "a rows text");
     assert!(rt; lists_with(rt.alloc(), &list, Piece::T, &t) == Ok(0b10_1000));
-    assert!(rt; lists_with(rt.alloc(), &list, Piece::T, &opener()) == Ok(0));
+    let all = opener().expect(&rt, "a rows text");
+    assert!(rt; lists_with(rt.alloc(), &list, Piece::T, &all) == Ok(0));
     assert!(rt; lists_with(rt.alloc(), &list, Piece::O, &t) == Ok(0));
 }

@@ -14,7 +14,7 @@ fn served(
     allowed: &[u64],
     pending: u64,
 ) -> Option<u64> {
-    let cells = Empties::below(&Well::from_rows(rows).unwrap_or(Well::empty()), 4);
+    let cells = Empties::below(&Well::from_rows(rows).ok()?, 4);
     let list = Lister::new(alloc).tilings(alloc, &cells, supply, 9)?;
     if list.tilings.len() != 1 {
         return None;
@@ -61,7 +61,7 @@ fn a_piece_below_a_filled_cell_does_not_drop(rt: HostRuntime) {
 #[test]
 fn nine_pieces_are_put_in_some_order(rt: HostRuntime) {
     let nine = Well::from_rows(b"X_________/X_________/X_________/X_________");
-    let cells = Empties::below(&nine.unwrap_or(Well::empty()), 4);
+    let cells = Empties::below(&nine.expect(&rt, "a rows text"), 4);
     let list = Lister::new(rt.alloc()).tilings(rt.alloc(), &cells, &[9, 0, 0, 0, 0, 0, 0], 99);
     let list = list.expect(&rt, "few tilings");
     let weights = [0, 1, 0, 0, 0, 0, 0, 0];

@@ -3,16 +3,13 @@ use packing::tiles;
 use srs::{Piece, Placement, Rotation, cells};
 use well::Well;
 
-fn field(text: &[u8]) -> Well {
-    Well::from_rows(text).unwrap_or(Well::empty())
-}
-
 #[test]
 fn one_and_two_pieces(rt: HostRuntime) {
-    let one = field(b"XXXXXX____");
+    let one = Well::from_rows(b"XXXXXX____").expect(&rt, "a rows text");
     assert!(rt; tiles(&one, 1, &[1, 0, 0, 0, 0, 0, 0]));
     assert!(rt; !tiles(&one, 1, &[0, 7, 7, 7, 7, 7, 7]));
-    let two = field(b"XXXXXXXX__/XXXXXX____/XXXXXXXX__");
+    let two = Well::from_rows(b"XXXXXXXX__/XXXXXX____/XXXXXXXX__");
+    let two = two.expect(&rt, "a rows text");
     assert!(rt; tiles(&two, 3, &[1, 0, 1, 0, 0, 0, 0]));
     assert!(rt; !tiles(&two, 3, &[0, 0, 2, 0, 0, 0, 0]));
 }
