@@ -1,36 +1,29 @@
 // The free states of a well, kept as boards, and keys that nothing hinders.
 ghost use Rattle.std.specs.Prelude.{◌≡◌, ◌≤◌, ◌<◌, ◌⊎◌, IfSome, IsTrue, true, pos, List, ◌∷◌};
-ghost use Rattle.lane_board.specs.Board.{field_of};
 ghost use Rattle.srs.specs.Cells.{Cell, moved, pivot_of};
 ghost use Rattle.srs.specs.Kick.{pair_of};
-ghost use Rattle.srs.specs.declared.rotation.Rotation.TheVariants.{Spawn, Right, Reverse, Left};
 ghost use Rattle.srs.specs.Rotation.{clockwise_of, anticlockwise_of};
 ghost use Rattle.srs.specs.Rules.{table_of};
 ghost use Rattle.well.specs.Free.{is_free, is_free_at};
 ghost use Rattle.well.specs.Well.{filled};
 ghost use Rattle.moves.specs.States.{IsPivot};
 ghost use Rattle.moves.specs.Step.{IsShort, first_free, step_of, turned};
-ghost use Rattle.whole_flood.specs.FreePivots.{AreFreePivots};
+ghost use Rattle.place_sets.specs.States.{states_of};
+ghost use Rattle.whole_flood.specs.FreePivots.{IsFreeMap};
 
-use lane_board::LaneBoard;
 use moves::{Key, step};
+use place_sets::Pivots;
 use srs::{Offset, Piece, Placement, Rotation, Rules, kick};
 use well::Well;
-use whole_flood::free_pivots;
+use whole_flood::free_states;
 
-/// A well, and for each rotation a board of the pivots at which a piece is free in it.
+/// A well, and the states in which a piece is free in it.
 #[derive(Drop)]
 pub(crate) struct FreeStates {
     pub(crate) well: Well,
     pub(crate) piece: Piece,
-    spawn: LaneBoard<24>,
-    right: LaneBoard<24>,
-    reverse: LaneBoard<24>,
-    left: LaneBoard<24>,
-    ghost in_spawn: { AreFreePivots (filled well) piece Spawn (field_of spawn) },
-    ghost in_right: { AreFreePivots (filled well) piece Right (field_of right) },
-    ghost in_reverse: { AreFreePivots (filled well) piece Reverse (field_of reverse) },
-    ghost in_left: { AreFreePivots (filled well) piece Left (field_of left) },
+    free: Pivots<24>,
+    ghost exact: { IsFreeMap (filled well) piece (states_of free) },
 }
 
 impl FreeStates {
@@ -42,10 +35,7 @@ impl FreeStates {
         FreeStates {
             well: *well,
             piece,
-            spawn: pivots_in(well, piece, Rotation::Spawn),
-            right: pivots_in(well, piece, Rotation::Right),
-            reverse: pivots_in(well, piece, Rotation::Reverse),
-            left: pivots_in(well, piece, Rotation::Left),
+            free: free_states(well.as_board(), piece),
         }
     }
 
@@ -121,25 +111,6 @@ impl FreeStates {
         ensures { result ≡ true → is_free_at (filled self.now.well) self.now.piece state.now.rotation
             (pos state.now.x, pos state.now.y) ≡ true }
     {
-        self.board(state.rotation).get(state.x, state.y)
+        self.free.board(state.rotation).get(state.x, state.y)
     }
-
-    /// The board of a rotation.
-    fn board(&self, rotation: Rotation) -> &LaneBoard<24>
-        ensures { AreFreePivots (filled self.now.well) self.now.piece rotation (field_of result.now) }
-    {
-        match rotation {
-            Rotation::Spawn => &self.spawn,
-            Rotation::Right => &self.right,
-            Rotation::Reverse => &self.reverse,
-            Rotation::Left => &self.left,
-        }
-    }
-}
-
-/// The pivots at which a piece in a rotation is free in a well.
-fn pivots_in(well: &Well, piece: Piece, rotation: Rotation) -> LaneBoard<24>
-    ensures { AreFreePivots (filled well.now) piece rotation (field_of result) }
-{
-    free_pivots(&well.board(), piece, rotation)
 }

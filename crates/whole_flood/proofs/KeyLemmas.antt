@@ -20,7 +20,7 @@ use Rattle.moves.specs.Leads.{spawn_of, spawned, state_after}
 use Rattle.moves.proofs.CallerLemmas.{not_some, led_none}
 use Rattle.place_sets.specs.States.{States, has_state, has_pivot, no_states}
 use Rattle.whole_flood.specs.Started.{started}
-use Rattle.whole_flood.specs.Opened.{IsFreeMap}
+use Rattle.whole_flood.specs.FreePivots.{IsFreeMap}
 use Rattle.whole_flood.specs.Flood.{Ground, IsReached, first_in, shifted_in, turned_in, step_in}
 use Rattle.place_sets.proofs.CallerLemmas.{ChangedIn, with_cases, with_here}
 use Rattle.whole_flood.proofs.ReachedLemmas.{step_in-kind}

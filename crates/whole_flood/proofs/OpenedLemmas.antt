@@ -12,8 +12,8 @@ use Rattle.srs.specs.Cells.{Cell, moved, shape}
 use Rattle.well.specs.Free.{is_open, is_free_at}
 use Rattle.well.proofs.CallerLemmas.{free_pivot, free_pivot_open}
 use Rattle.place_sets.specs.States.{States, has_pivot}
-use Rattle.whole_flood.specs.FreePivots.{AreFreePivots}
-use Rattle.whole_flood.specs.Opened.{opened, opened_at, IsFreeMap}
+use Rattle.whole_flood.specs.FreePivots.{IsFreeMap}
+use Rattle.whole_flood.specs.Opened.{opened, opened_at, AreFreePivots}
 use Rattle.place_sets.proofs.CallerLemmas.{moved_from, moved_to, moved_back, moved_forth, same_column, same_row, PivotAt}
 
 module _ (F : Field) where

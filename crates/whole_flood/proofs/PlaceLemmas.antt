@@ -20,7 +20,7 @@ use Rattle.moves.proofs.CallerLemmas.{leads-free, rest_of-is, rest_of-only}
 use Rattle.place_sets.specs.States.{States, has_state, has_pivot}
 use Rattle.whole_flood.specs.Started.{started}
 use Rattle.whole_flood.specs.Folded.{folded}
-use Rattle.whole_flood.specs.Opened.{IsFreeMap}
+use Rattle.whole_flood.specs.FreePivots.{IsFreeMap}
 use Rattle.whole_flood.specs.Rested.{AreRested}
 use Rattle.whole_flood.specs.Flood.{IsFlood}
 use Rattle.place_sets.proofs.CallerLemmas.{LiesWithin, IsWithin, state_of}

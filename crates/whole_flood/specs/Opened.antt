@@ -1,11 +1,10 @@
 -- The pivots at which a piece lies on open cells alone.
 use Rattle.std.specs.Prelude.{◌≡◌, ℕ, List, [], ◌∷◌, neg_ℤ}
-use Rattle.lane_board.specs.Field.{Field, intersection, moved_within}
+use Rattle.lane_board.specs.Field.{Field, has_cell, intersection, moved_within}
 use Rattle.srs.specs.declared.piece.Piece.{Piece}
 use Rattle.srs.specs.declared.rotation.Rotation.{Rotation}
 use Rattle.srs.specs.Cells.{Cell}
 use Rattle.well.specs.Free.{is_free_at}
-use Rattle.place_sets.specs.States.{States, has_pivot}
 
 -- those of the pivots that have an open cell at an offset
 unfoldable pub opened : Field → ℕ → Cell → Field → Field
@@ -16,6 +15,6 @@ unfoldable pub opened_at : Field → ℕ → List Cell → Field → Field
 opened_at cells N [] S = S
 opened_at cells N (offset ∷ offsets) S = opened_at cells N offsets (opened cells N offset S)
 
--- a set has the states of a piece that a field leaves free
-pub record IsFreeMap (F : Field) (piece : Piece) (free : States) : Type 0 where
-  pub exact : (rotation : Rotation) (pivot : Cell) → is_free_at F piece rotation pivot ≡ has_pivot free rotation pivot
+-- a board has the pivots at which the field leaves the piece free in the rotation, and no others
+pub record AreFreePivots (F : Field) (piece : Piece) (rotation : Rotation) (pivots : Field) : Type 0 where
+  pub exact : (pivot : Cell) → is_free_at F piece rotation pivot ≡ has_cell pivots pivot.0 pivot.1

@@ -4,16 +4,17 @@ ghost use Rattle.std.specs.List.{list_all};
 ghost use Rattle.lane_board.specs.Board.{field_of};
 ghost use Rattle.srs.specs.Cells.{shape, is_near};
 ghost use Rattle.place_sets.specs.States.{states_of};
-ghost use Rattle.whole_flood.specs.FreePivots.{AreFreePivots};
-ghost use Rattle.whole_flood.specs.Opened.{opened, opened_at, IsFreeMap};
+ghost use Rattle.whole_flood.specs.FreePivots.{IsFreeMap};
+ghost use Rattle.whole_flood.specs.Opened.{opened, opened_at, AreFreePivots};
 
 use lane_board::LaneBoard;
 use place_sets::Pivots;
 use srs::{Piece, Placement, Rotation, cells};
 
-/// The states of a piece whose cells all lie in the well and are not filled.
+/// The states of a piece whose cells all lie in the well and are not filled. The columns and rows of the boards are
+/// those of the pivots.
 #[tactic(auto, using(crate::proofs::OpenedLemmas::free_map), unfolding(place_sets::specs::States::states_of))]
-pub(crate) fn free_states(filled: &LaneBoard<24>, piece: Piece) -> Pivots<24>
+pub fn free_states(filled: &LaneBoard<24>, piece: Piece) -> Pivots<24>
     ensures { IsFreeMap (field_of filled.now) piece (states_of result) }
 {
     Pivots {
@@ -24,9 +25,8 @@ pub(crate) fn free_states(filled: &LaneBoard<24>, piece: Piece) -> Pivots<24>
     }
 }
 
-/// The pivots at which a piece in a rotation is free: its cells all lie in the well and are not filled. The board's
-/// columns and rows are those of the pivots.
-pub fn free_pivots(filled: &LaneBoard<24>, piece: Piece, rotation: Rotation) -> LaneBoard<24>
+/// The pivots at which a piece in a rotation is free: its cells all lie in the well and are not filled.
+fn free_pivots(filled: &LaneBoard<24>, piece: Piece, rotation: Rotation) -> LaneBoard<24>
     ensures { AreFreePivots (field_of filled.now) piece rotation (field_of result) }
 {
     let blank = LaneBoard::rows_below(23).minus(filled);

@@ -8,5 +8,5 @@ mod rest;
 mod turn;
 mod whole;
 
-pub use free::free_pivots;
+pub use free::free_states;
 pub use whole::whole_places;
