@@ -6,11 +6,12 @@ pub mod Fitting
 pub mod BuiltHands
 -- What contracts cite beside these: views of values, and readings and tests, each with its law
 pub mod GoodHands
--- What serves proofs alone
+-- What the invariants of types cite: what their private fields hold and stand for
 pub mod Counts
 pub mod Kept
-pub mod Children
 pub mod Spread
+-- What serves proofs alone
+pub mod Children
 pub mod Marks
 pub mod ListedHands
 pub mod Wanted
