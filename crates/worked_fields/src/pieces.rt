@@ -4,7 +4,7 @@ ghost use Rattle.std.specs.Prelude.{◌≡◌};
 use srs::{Offset, Piece, Placement, Rotation, Rules, canonical, cells, compare, is_inside, kick};
 use std::cmp::Ordering;
 
-fn place(piece: Piece, rotation: Rotation, x: u8, y: u8) -> Placement
+fn placement(piece: Piece, rotation: Rotation, x: u8, y: u8) -> Placement
     ensures { result ≡ record { piece = piece; rotation = rotation; x = x; y = y } }
 {
     Placement {
@@ -66,10 +66,10 @@ fn rotations_have_letters_and_neighbours(rt: HostRuntime) {
 
 #[test]
 fn cells_lie_about_the_pivot(rt: HostRuntime) {
-    let appearing = place(Piece::T, Rotation::Spawn, 4, 20);
+    let appearing = placement(Piece::T, Rotation::Spawn, 4, 20);
     assert!(rt; cells(&appearing) == [(3, 20), (4, 20), (5, 20), (4, 21)]);
     assert!(rt; is_inside(&appearing));
-    let left = place(Piece::I, Rotation::Left, 0, 0);
+    let left = placement(Piece::I, Rotation::Left, 0, 0);
     assert!(rt; cells(&left) == [(0, -1), (0, 0), (0, 1), (0, 2)]);
     assert!(rt; !is_inside(&left));
 }
@@ -106,9 +106,9 @@ fn is_canonical(placement: &Placement, earliest: &Placement) -> bool {
 #[test]
 fn canonical_takes_the_earliest_rotation(rt: HostRuntime) {
     for (piece, from, to, x, y) in MOVED {
-        let earliest = place(*piece, *to, *x, *y);
+        let earliest = placement(*piece, *to, *x, *y);
         assert!(rt;
-            is_canonical(&place(*piece, *from, 5, 3), &earliest),
+            is_canonical(&placement(*piece, *from, 5, 3), &earliest),
             "{earliest:?}"
         );
     }
@@ -116,10 +116,10 @@ fn canonical_takes_the_earliest_rotation(rt: HostRuntime) {
 
 #[test]
 fn rows_are_compared_before_columns(rt: HostRuntime) {
-    let first = place(Piece::L, Rotation::Spawn, 8, 0);
-    let second = place(Piece::L, Rotation::Reverse, 7, 1);
+    let first = placement(Piece::L, Rotation::Spawn, 8, 0);
+    let second = placement(Piece::L, Rotation::Reverse, 7, 1);
     assert!(rt; compare(&first, &second) == Ordering::Less);
-    let high = place(Piece::L, Rotation::Spawn, 2, 1);
+    let high = placement(Piece::L, Rotation::Spawn, 2, 1);
     assert!(rt; compare(&high, &first) == Ordering::Greater);
     assert!(rt; compare(&high, &high) == Ordering::Equal);
 }
