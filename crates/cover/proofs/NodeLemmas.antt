@@ -9,10 +9,10 @@ pub none-below : (node : Node) (kind : Piece) → node.below ≡ 0 ∷ 0 ∷ 0 �
 unfolding node_child
 none-below node kind zeros = search rules
 
-pub child-read : (node : Node) (kind : Piece) (place : ℕ) → place ≡ piece_code kind - 1 → get_or node.below place 0 ≡ node_child node kind
+pub child-read : (node : Node) (kind : Piece) (index : ℕ) → index ≡ piece_code kind - 1 → get_or node.below index 0 ≡ node_child node kind
 unfolding node_child
-child-read node kind place is = ap (λ n. get_or node.below n 0) is
+child-read node kind index is = ap (λ n. get_or node.below n 0) is
 
-pub child-with : (old new : Node) (kind : Piece) (number place : ℕ) → place ≡ piece_code kind - 1 → new.below ≡ set old.below place number → new.ends ≡ old.ends → IsWith old kind number new
+pub child-with : (old new : Node) (kind : Piece) (number index : ℕ) → index ≡ piece_code kind - 1 → new.below ≡ set old.below index number → new.ends ≡ old.ends → IsWith old kind number new
 unfolding node_child
-child-with old new kind number place is below ends = search rules
+child-with old new kind number index is below ends = search rules

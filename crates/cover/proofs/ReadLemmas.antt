@@ -1,4 +1,4 @@
--- What stands at a place of a list after a write and after a push.
+-- What stands at an index of a list after a write and after a push.
 use Rattle.std.proofs.Common.{◌≡◌, ℕ, zero, suc, ◌<◌, List, [], ◌∷◌, ◌++◌, length, Some, slice_get, set, refl, ap, arith}
 
 pub get-written : {A : Type 0} (xs : List A) (i : ℕ) (x : A) → i < length xs → slice_get (set xs i x) i ≡ Some x

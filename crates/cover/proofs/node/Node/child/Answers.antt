@@ -1,4 +1,4 @@
--- The place of a kind is its code less one.
+-- The index of a kind is its code less one.
 use Rattle.std.proofs.Common.{rules}
 use Rattle.cover.proofs.NodeLemmas.{child-read}
 use Rattle.cover.proofs.node.Node.child.Goals as goal

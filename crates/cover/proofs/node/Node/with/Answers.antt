@@ -1,4 +1,4 @@
--- The place of a kind is its code less one.
+-- The index of a kind is its code less one.
 use Rattle.std.proofs.Common.{◌∙◌, ◌-◌, ap, refl}
 use Rattle.cover.proofs.NodeLemmas.{child-with}
 use Rattle.cover.proofs.node.Node.with.Goals as goal

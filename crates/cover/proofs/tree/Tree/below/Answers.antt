@@ -1,4 +1,4 @@
--- The node at a place.
+-- The node at an index.
 use Rattle.std.proofs.Common.{rules}
 use Rattle.std.proofs.lemmas.Option.{slice_get_read}
 use Rattle.cover.specs.Tree.{nodes_of}
