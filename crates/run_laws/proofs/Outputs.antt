@@ -79,7 +79,7 @@ use Rattle.run_laws.proofs.Tables.{rules-made, srs_small}
 use Rattle.run_laws.proofs.Wells.{LiesInWell, well-made}
 
 -- what the laws of the crates below say
-pub record Known : Type 0 where
+pub record LawsBelow : Type 0 where
   pub tables : (text : List ℕ) (read : Result Table KickFault) → (kick_text text ≡ read) ↔ IsReadAs text read
   pub rows : (text : List ℕ) → (rows_fault text ≡ None) ↔ IsRowsText text
   pub fields : (field : FieldText) (number : ℕ) (meant : DashText) → 1 ≤ number → field_fault field number meant ≡ None → IsFieldOf field number meant (cells_asked field number meant)
@@ -98,7 +98,7 @@ pub record Has (Outputs : List ℕ → Type 0) : Type 0 where
   pub output : List ℕ
   pub is : Outputs output
 
-module _ (known : Known) where
+module _ (known : LawsBelow) where
   -- the field and the problem that are asked about
   pub asked_field : (field : FieldText) (number : ℕ) (meant : DashText) → 1 ≤ number → field_fault field number meant ≡ None
       → IsFieldOf field number meant (cells_asked field number meant) × LiesInWell (cells_asked field number meant)

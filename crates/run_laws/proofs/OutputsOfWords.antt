@@ -12,7 +12,7 @@ use Rattle.pc_words.specs.Words.{asked_in, request_in, with_table}
 use Rattle.pc_words.proofs.CallerLemmas.{asked_in_range}
 use Rattle.pc_kicks.specs.Lines.{kicks_form}
 use Rattle.pc_app.specs.Tasks.{refused_task, task_for, task_in, task_of}
-use Rattle.run_laws.proofs.Outputs.{Has, Known, combo_has, cover_has, decode_has, encode_has, path_has, percent_has, selfrun_has, show_has}
+use Rattle.run_laws.proofs.Outputs.{Has, LawsBelow, combo_has, cover_has, decode_has, encode_has, path_has, percent_has, selfrun_has, show_has}
 use Rattle.run_laws.proofs.Problems.{both_none}
 use Rattle.run_laws.proofs.Tables.{read_small}
 
@@ -24,7 +24,7 @@ refused : (fault : Fault) (bytes : List ℕ) → first_fault (refused_task fault
 unfolding first_fault
 refused fault bytes none = let bad : Some fault ≡ None = none in cc
 
-module _ (known : Known) (bytes : List ℕ) (floods : ℕ) where
+module _ (known : LawsBelow) (bytes : List ℕ) (floods : ℕ) where
   of_request : (request : Request) → AsksInRange request → (table : Table) → table_asked request ≡ Ok table → IsSmallTable table → (task_for request).fault bytes ≡ None
       → Has ((task_for request).IsOutput bytes floods)
   of_request (path request) range table read small none = path_has known request table bytes floods range read small none
@@ -49,5 +49,5 @@ module _ (known : Known) (bytes : List ℕ) (floods : ℕ) where
       of_table request fits.0 (table_asked request) refl (λ table read. read_small known.tables fits.1 table (sym fits.2 ∙ read)) none
   of_words words (Err fault) is none = absurd (refused (Words fault) bytes none)
 
-pub has_output : Known → (words : List (List ℕ)) (bytes : List ℕ) (floods : ℕ) → first_fault (task_of words) bytes ≡ None → Has ((task_of words).IsOutput bytes floods)
+pub has_output : LawsBelow → (words : List (List ℕ)) (bytes : List ℕ) (floods : ℕ) → first_fault (task_of words) bytes ≡ None → Has ((task_of words).IsOutput bytes floods)
 has_output known words bytes floods none = of_words known bytes floods words (request_in words) refl none

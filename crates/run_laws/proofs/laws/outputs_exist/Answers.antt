@@ -1,11 +1,11 @@
 -- What the laws of the crates below say gives each command its output.
-use Rattle.run_laws.proofs.Outputs.{Known}
+use Rattle.run_laws.proofs.Outputs.{LawsBelow}
 use Rattle.run_laws.proofs.OutputsOfWords.{has_output}
 use Rattle.run_laws.proofs.laws.outputs_exist.Goals as goal
 
 pub returns : goal.returns
 returns c = λ words bytes floods none.
-    let known : Known = record {
+    let known : LawsBelow = record {
       tables = c.texts_are_read_as_they_spell.ensures;
       rows = c.texts_without_fault_are_rows.ensures;
       fields = c.fields_are_read_as_they_are_asked.ensures.there;
