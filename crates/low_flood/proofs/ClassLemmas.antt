@@ -25,7 +25,7 @@ class_lane p r = (signed_Decides (lowest (shape p r)) (lowest (shape p (canonica
 same_all : (test : Cell → Bool) (xs ys : List Cell) → SameCells xs ys → list_all test xs ≡ list_all test ys
 same_all test xs ys same = search (rules, same_from_both, list_all-from_is_among, is_among-all)
 
--- and one board of free places
+-- and one board of free lane states
 pub class_free : (F : Field) (p : Piece) (r : Rotation) (pivot : Cell) → is_free_at F p r pivot ≡ is_free_at F p (canonical_rotation p r) (moved pivot (canonical_move p r))
 unfolding is_free_at
 class_free F p r pivot = sym (same_all (is_open F) _ _ (canonical_cells p r pivot))

@@ -27,10 +27,10 @@ use Rattle.moves.specs.RestingStates.{IsKeyed}
 use Rattle.moves.specs.Lanes.{lowest, lane, IsFloodBelow}
 use Rattle.low_flood.specs.SkyBoard.{IsLaneMap, sky_board}
 use Rattle.low_flood.specs.LaneTurns.{arrivals}
-use Rattle.low_flood.specs.LaneFlood.{Lanes, IsInLanes, IsLanesClosed, place_column}
+use Rattle.low_flood.specs.LaneFlood.{Lanes, IsInLanes, IsLanesClosed, state_column}
 use Rattle.low_flood.proofs.ClassLemmas.{class_lane, sky_same}
 use Rattle.low_flood.proofs.SkyBoards.{sky_board-exact}
-use Rattle.low_flood.proofs.LaneTurns.{free_lane, inside_lane, is_low_move, clockwise_low, anti_low, turn_arrives, class_place}
+use Rattle.low_flood.proofs.LaneTurns.{free_lane, inside_lane, is_low_move, clockwise_low, anti_low, turn_arrives, class_lane_state}
 
 -- a turn leads to its rotation
 turned-rotation : (F : Field) (s : Placement) (to : Rotation) (t : Placement) → turned srs_table F s to ≡ Some t → t.rotation ≡ to
@@ -39,34 +39,34 @@ turned-rotation F s to t e = (lifts_by F s.piece to (pivot_of s) (λ (c : Cell).
 
 module _ (F : Field) (r N : ℕ) (clear : IsClearFrom r F) (over : r + 2 ≤ N) (few : N ≤ 16) (piece : Piece) (free S : Lanes)
     (is : (rotation : Rotation) → IsLaneMap F piece (canonical_rotation piece rotation) N (free rotation)) (closed : IsLanesClosed piece N free S) (lies : (rotation : Rotation) → LiesWithin (S rotation) N) where
-  at_place : Rotation → ℕ → ℕ → Placement
-  at_place rotation x row = record { piece = piece; rotation = rotation; x = x; y = row }
+  state_in : Rotation → ℕ → ℕ → Placement
+  state_in rotation x row = record { piece = piece; rotation = rotation; x = x; y = row }
 
-  -- the place of a free state of the piece
-  record PlaceOf (t : Placement) : Type 0 where
+  -- the lane state of a free state of the piece
+  record LaneStateOf (t : Placement) : Type 0 where
     x : ℕ
-    column : place_column t ≡ pos x
+    column : state_column t ≡ pos x
     in_columns : x < 10
     y : ℕ
     at : lane t ≡ pos y
 
-  place_of : (t : Placement) → is_free F t ≡ true → PlaceOf t
+  lane_state_of : (t : Placement) → is_free F t ≡ true → LaneStateOf t
   unfolding moved
-  place_of t t_free = search (rules, (canonical_pivot t), free_inside, free_lane)
+  lane_state_of t t_free = search (rules, (canonical_pivot t), free_inside, free_lane)
 
   -- it is free
-  free_place : (t : Placement) (x y : ℕ) → t.piece ≡ piece → is_free F t ≡ true → place_column t ≡ pos x → lane t ≡ pos y → y < N → free t.rotation x y ≡ true
-  free_place t x y kind t_free column at below =
+  free_in_lanes : (t : Placement) (x y : ℕ) → t.piece ≡ piece → is_free F t ≡ true → state_column t ≡ pos x → lane t ≡ pos y → y < N → free t.rotation x y ≡ true
+  free_in_lanes t x y kind t_free column at below =
       let move : (canonical_move t.piece t.rotation).0 ≡ (canonical_move piece t.rotation).0 = ap (λ (p : Piece). (canonical_move p t.rotation).0) kind in
       let floors : lowest (shape t.piece t.rotation) ≡ lowest (shape piece t.rotation) = ap (λ (p : Piece). lowest (shape p t.rotation)) kind in
       let to_x : pos x -ℤ (canonical_move piece t.rotation).0 ≡ pos t.x = omega (arith, ints) in
       let to_y : pos y -ℤ lowest (shape piece t.rotation) ≡ pos t.y = omega (arith, ints) in
       let back : piece ≡ t.piece = sym kind in
-      (is t.rotation).exact x y below ∙ class_place F piece t.rotation (pos x) (pos y) ∙ (λ i. is_free_at F (back i) t.rotation (to_x i, to_y i)) ∙ t_free
+      (is t.rotation).exact x y below ∙ class_lane_state F piece t.rotation (pos x) (pos y) ∙ (λ i. is_free_at F (back i) t.rotation (to_x i, to_y i)) ∙ t_free
 
-  -- a single move from a held place leads beside it
+  -- a single move from a held lane state leads beside it
   moves_beside : (rotation : Rotation) (x row px y : ℕ) (move : Cell) (t : Placement) (a b : ℕ) → pos x +ℤ (canonical_move piece rotation).0 ≡ pos px → pos row +ℤ lowest (shape piece rotation) ≡ pos y → S rotation px y ≡ true →
-      Lifts piece rotation (pos x, pos row) move t → place_column t ≡ pos a → lane t ≡ pos b → a < 10 → b < N → moved_within (S rotation) N move.0 move.1 a b ≡ true
+      Lifts piece rotation (pos x, pos row) move t → state_column t ≡ pos a → lane t ≡ pos b → a < 10 → b < N → moved_within (S rotation) N move.0 move.1 a b ≡ true
   unfolding moved
   moves_beside rotation x row px y move t a b col at held lifts column_t at_t in_columns below =
       let floors : lowest (shape t.piece t.rotation) ≡ lowest (shape piece rotation) = λ i. lowest (shape (lifts.kind i) (lifts.turn i)) in
@@ -79,12 +79,12 @@ module _ (F : Field) (r N : ℕ) (clear : IsClearFrom r F) (over : r + 2 ≤ N) 
 
   turn_held : (rotation to : Rotation) (x row px y : ℕ) (t : Placement) (a b : ℕ) → list_all (is_low_move piece rotation to) (kicks_of srs_table piece rotation to) ≡ true →
       ((a b : ℕ) → arrivals piece rotation to N (free to) (S rotation) empty_field a b ≡ true → S to a b ≡ true) → pos x +ℤ (canonical_move piece rotation).0 ≡ pos px → pos row +ℤ lowest (shape piece rotation) ≡ pos y → S rotation px y ≡ true →
-      turned srs_table F (at_place rotation x row) to ≡ Some t → t.piece ≡ piece → t.rotation ≡ to → place_column t ≡ pos a → lane t ≡ pos b → a < 10 → b < N → IsInLanes piece S t
-  unfolding turned at_place
+      turned srs_table F (state_in rotation x row) to ≡ Some t → t.piece ≡ piece → t.rotation ≡ to → state_column t ≡ pos a → lane t ≡ pos b → a < 10 → b < N → IsInLanes piece S t
+  unfolding turned state_in
   turn_held rotation to x row px y t a b small so col at held e kind turn column_t at_t in_columns below =
       let back_x : pos px -ℤ (canonical_move piece rotation).0 ≡ pos x = omega (arith, ints) in
       let back_y : pos y -ℤ lowest (shape piece rotation) ≡ pos row = omega (arith, ints) in
-      let same : t ≡ at_place to t.x t.y = λ i. record { piece = kind i; rotation = turn i; x = t.x; y = t.y } in
+      let same : t ≡ state_in to t.x t.y = λ i. record { piece = kind i; rotation = turn i; x = t.x; y = t.y } in
       let floors : lowest (shape t.piece t.rotation) ≡ lowest (shape piece to) = λ i. lowest (shape (kind i) (turn i)) in
       let moves : (canonical_move t.piece t.rotation).0 ≡ (canonical_move piece to).0 = λ i. (canonical_move (kind i) (turn i)).0 in
       let lane_is : pos t.y +ℤ lowest (shape piece to) ≡ pos b = omega (arith, ints) in
@@ -106,41 +106,41 @@ module _ (F : Field) (r N : ℕ) (clear : IsClearFrom r F) (over : r + 2 ≤ N) 
   from_down rotation a b m = or_right _ (moved_within (S rotation) N (pos 0) (minus 1) a b) m
 
   key_held : (rotation : Rotation) (x row px y : ℕ) (key : Key) (t : Placement) → pos x +ℤ (canonical_move piece rotation).0 ≡ pos px → pos row +ℤ lowest (shape piece rotation) ≡ pos y → S rotation px y ≡ true →
-      step_of srs_table F (at_place rotation x row) key ≡ Some t → lane t <ℤ pos N → IsInLanes piece S t
-  unfolding at_place
+      step_of srs_table F (state_in rotation x row) key ≡ Some t → lane t <ℤ pos N → IsInLanes piece S t
+  unfolding state_in
   key_held rotation x row px y key t col at held e low = by_key key e
     where
-      goes : (key : Key) → step_of srs_table F (at_place rotation x row) key ≡ Some t → (t.piece ≡ piece) × (is_free F t ≡ true)
-      goes key e = let there = step_of-free srs_table F (at_place rotation x row) key t e in (there.kind, there.free)
+      goes : (key : Key) → step_of srs_table F (state_in rotation x row) key ≡ Some t → (t.piece ≡ piece) × (is_free F t ≡ true)
+      goes key e = let there = step_of-free srs_table F (state_in rotation x row) key t e in (there.kind, there.free)
 
-      by_shift : (key : Key) (move : Cell) → step_of srs_table F (at_place rotation x row) key ≡ Some t → shifted F (at_place rotation x row) move ≡ Some t →
+      by_shift : (key : Key) (move : Cell) → step_of srs_table F (state_in rotation x row) key ≡ Some t → shifted F (state_in rotation x row) move ≡ Some t →
           ((a b : ℕ) → moved_within (S rotation) N move.0 move.1 a b ≡ true → union (sideways N (S rotation)) (lower N (S rotation)) a b ≡ true) → IsInLanes piece S t
       by_shift key move step shift so =
           let there = goes key step in
-          let place = place_of t there.1 in
-          let at_t = place.at in
-          let below : place.y < N = omega (arith, ints) in
-          let lifts = shift_lifts F (at_place rotation x row) move t shift in
-          let free_there : free rotation place.x place.y ≡ true = subst (λ (r : Rotation). free r place.x place.y ≡ true) lifts.turn (free_place t place.x place.y there.0 there.1 place.column at_t below) in
-          let beside = moves_beside rotation x row px y move t place.x place.y col at held lifts place.column at_t place.in_columns below in
-          record { kind = there.0; x = place.x; column = place.column; y = place.y; at = at_t; held = subst (λ (r : Rotation). S r place.x place.y ≡ true) (sym lifts.turn) (closed.beside rotation place.x place.y (so place.x place.y beside) free_there) }
+          let target = lane_state_of t there.1 in
+          let at_t = target.at in
+          let below : target.y < N = omega (arith, ints) in
+          let lifts = shift_lifts F (state_in rotation x row) move t shift in
+          let free_there : free rotation target.x target.y ≡ true = subst (λ (r : Rotation). free r target.x target.y ≡ true) lifts.turn (free_in_lanes t target.x target.y there.0 there.1 target.column at_t below) in
+          let beside = moves_beside rotation x row px y move t target.x target.y col at held lifts target.column at_t target.in_columns below in
+          record { kind = there.0; x = target.x; column = target.column; y = target.y; at = at_t; held = subst (λ (r : Rotation). S r target.x target.y ≡ true) (sym lifts.turn) (closed.beside rotation target.x target.y (so target.x target.y beside) free_there) }
 
-      by_turn : (key : Key) (to : Rotation) → step_of srs_table F (at_place rotation x row) key ≡ Some t → turned srs_table F (at_place rotation x row) to ≡ Some t →
+      by_turn : (key : Key) (to : Rotation) → step_of srs_table F (state_in rotation x row) key ≡ Some t → turned srs_table F (state_in rotation x row) to ≡ Some t →
           list_all (is_low_move piece rotation to) (kicks_of srs_table piece rotation to) ≡ true → ((a b : ℕ) → arrivals piece rotation to N (free to) (S rotation) empty_field a b ≡ true → S to a b ≡ true) → IsInLanes piece S t
       by_turn key to step turn small so =
           let there = goes key step in
-          let place = place_of t there.1 in
-          let at_t = place.at in
-          turn_held rotation to x row px y t place.x place.y small so col at held turn there.0 (turned-rotation F (at_place rotation x row) to t turn) place.column at_t place.in_columns (omega (arith, ints))
+          let target = lane_state_of t there.1 in
+          let at_t = target.at in
+          turn_held rotation to x row px y t target.x target.y small so col at held turn there.0 (turned-rotation F (state_in rotation x row) to t turn) target.column at_t target.in_columns (omega (arith, ints))
 
-      by_key : (key : Key) → step_of srs_table F (at_place rotation x row) key ≡ Some t → IsInLanes piece S t
+      by_key : (key : Key) → step_of srs_table F (state_in rotation x row) key ≡ Some t → IsInLanes piece S t
       by_key Left e = by_shift Left (minus 1, pos 0) e e (from_left rotation)
       by_key Right e = by_shift Right (pos 1, pos 0) e e (from_right rotation)
       by_key Down e = by_shift Down (pos 0, minus 1) e e (from_down rotation)
       by_key Clockwise e = by_turn Clockwise (clockwise_of rotation) e e (clockwise_low piece rotation) (closed.clockwise rotation)
       by_key Anti e = by_turn Anti (anticlockwise_of rotation) e e (anti_low piece rotation) (closed.anti rotation)
 
-  -- the place of a state under the sky is on the board of the sky
+  -- the lane state of a state under the sky is on the board of the sky
   sky_held : (s : Placement) → s.piece ≡ piece → IsUnderSky F s → lane s <ℤ pos N → IsInLanes piece S s
   unfolding moved
   sky_held s kind sky low =
@@ -163,10 +163,10 @@ module _ (F : Field) (r N : ℕ) (clear : IsClearFrom r F) (over : r + 2 ≤ N) 
 
   -- closed boards whose states keys lead to are a flood below lane N
   pub lanes_flood : ((s : Placement) → IsInLanes piece S s → IsKeyed srs_table F Soft s) → IsFloodBelow N F piece (IsInLanes piece S)
-  unfolding at_place
+  unfolding state_in
   lanes_flood sound = record {
     kind = λ s here. here.kind;
-    below = λ s here. let at = here.at in let place = (lies s.rotation).inside here.x here.y here.held in omega (arith, ints, place.1);
+    below = λ s here. let at = here.at in let bounds = (lies s.rotation).inside here.x here.y here.held in omega (arith, ints, bounds.1);
     sky = sky_held;
     closed = next_held;
     sound = sound;

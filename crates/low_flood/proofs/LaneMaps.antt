@@ -1,4 +1,4 @@
--- The board of free places has the free states, and its resting places the resting ones.
+-- The board of free lane states has the free states, and its resting ones the resting states.
 use Rattle.std.proofs.Common.{◌≡◌, ◌↔◌, ℕ, suc, ◌<◌, ◌≤◌, Bool, true, false, not, ◌&&◌, ℤ, pos, ◌+ℤ◌, ◌-ℤ◌, ◌≤ℤ◌, List, [], ◌∷◌, map, refl, sym, ap, subst, ◌∙◌, arith, rules}
 use Rattle.std.specs.Prelude.{neg_ℤ, nat_lt}
 use Rattle.std.specs.List.{list_all}
@@ -91,16 +91,16 @@ module _ (N : ℕ) where
       let lies = from_rows x y (and_parts (rows_below N x y) (fits_column piece rotation (pos x)) held).0 in
       fits_all piece rotation (shape piece rotation) (rows_below N) x y lies.0 lies.1 ∙ held))
 
--- the pivot of a place
-abbrev pub place_pivot : Piece → Rotation → ℕ → ℕ → Cell
-place_pivot piece rotation x y = (pos x, pos y -ℤ lowest (shape piece rotation))
+-- the pivot of a lane state
+abbrev pub lane_pivot : Piece → Rotation → ℕ → ℕ → Cell
+lane_pivot piece rotation x y = (pos x, pos y -ℤ lowest (shape piece rotation))
 
 module _ (F : Field) (N : ℕ) (lies : LiesWithin F N) (few : N ≤ 16) (piece : Piece) (rotation : Rotation) where
   is_hit : Cell → ℕ → ℕ → Bool
   is_hit c x y = moved_within F N (neg_ℤ (from_lane piece rotation c).0) (neg_ℤ (from_lane piece rotation c).1) x y
 
   -- an open cell is not hit
-  open_missed : (c : Cell) (x y : ℕ) → is_open F (moved (place_pivot piece rotation x y) c) ≡ true → is_hit c x y ≡ false
+  open_missed : (c : Cell) (x y : ℕ) → is_open F (moved (lane_pivot piece rotation x y) c) ≡ true → is_hit c x y ≡ false
   unfolding is_hit moved is_open
   open_missed c x y opened = false_from_ne_true _ (λ filled.
       let way = moved_from F N (neg_ℤ (from_lane piece rotation c).0, neg_ℤ (from_lane piece rotation c).1) x y filled in
@@ -112,7 +112,7 @@ module _ (F : Field) (N : ℕ) (lies : LiesWithin F N) (few : N ≤ 16) (piece :
       both_ways _ (not-true _ (and_parts _ (not (F way.from_x way.from_y)) there).1) way.filled)
 
   -- and a cell in a column of the well that is not hit is open
-  missed_open : (c : Cell) (x y : ℕ) → x < 10 → y < N → is_near_lane (from_lane piece rotation c) ≡ true → is_column (pos x +ℤ c.0) ≡ true → is_hit c x y ≡ false → is_open F (moved (place_pivot piece rotation x y) c) ≡ true
+  missed_open : (c : Cell) (x y : ℕ) → x < 10 → y < N → is_near_lane (from_lane piece rotation c) ≡ true → is_column (pos x +ℤ c.0) ≡ true → is_hit c x y ≡ false → is_open F (moved (lane_pivot piece rotation x y) c) ≡ true
   unfolding is_hit moved
   missed_open c x y col row near fits missed =
       let at = column (pos x +ℤ c.0) fits in
@@ -132,16 +132,16 @@ module _ (F : Field) (N : ℕ) (lies : LiesWithin F N) (few : N ≤ 16) (piece :
   hits_keep [] S x y held = held
   hits_keep (c ∷ cs) S x y held = hits_keep cs (hit F N c S) x y (or_left (S x y) _ held)
 
-  -- places at which all cells are open are not hit
-  all_missed : (cells : List Cell) (S : Field) (x y : ℕ) → S x y ≡ false → list_all (λ (c : Cell). is_open F (moved (place_pivot piece rotation x y) c)) cells ≡ true → hit_all F N (map (from_lane piece rotation) cells) S x y ≡ false
+  -- lane states in which all cells are open are not hit
+  all_missed : (cells : List Cell) (S : Field) (x y : ℕ) → S x y ≡ false → list_all (λ (c : Cell). is_open F (moved (lane_pivot piece rotation x y) c)) cells ≡ true → hit_all F N (map (from_lane piece rotation) cells) S x y ≡ false
   unfolding hit_all hit union is_hit
   all_missed [] S x y none opened = none
   all_missed (c ∷ cs) S x y none opened =
-      let parts = and_parts (is_open F (moved (place_pivot piece rotation x y) c)) (list_all (λ (c : Cell). is_open F (moved (place_pivot piece rotation x y) c)) cs) opened in
+      let parts = and_parts (is_open F (moved (lane_pivot piece rotation x y) c)) (list_all (λ (c : Cell). is_open F (moved (lane_pivot piece rotation x y) c)) cs) opened in
       all_missed cs (hit F N (from_lane piece rotation c) S) x y (or_from (S x y) (is_hit c x y) none (open_missed c x y parts.0)) parts.1
 
   all_open : (cells : List Cell) (S : Field) (x y : ℕ) → x < 10 → y < N → list_all (λ c. is_near_lane (from_lane piece rotation c)) cells ≡ true → list_all (λ (c : Cell). is_column (pos x +ℤ c.0)) cells ≡ true →
-      hit_all F N (map (from_lane piece rotation) cells) S x y ≡ false → list_all (λ (c : Cell). is_open F (moved (place_pivot piece rotation x y) c)) cells ≡ true
+      hit_all F N (map (from_lane piece rotation) cells) S x y ≡ false → list_all (λ (c : Cell). is_open F (moved (lane_pivot piece rotation x y) c)) cells ≡ true
   unfolding hit_all hit union is_hit
   all_open [] S x y col row near fits missed = refl
   all_open (c ∷ cs) S x y col row near fits missed =
@@ -154,27 +154,27 @@ module _ (F : Field) (N : ℕ) (lies : LiesWithin F N) (few : N ≤ 16) (piece :
   unfolding free_lanes difference inside_lanes is_free_at empty_field
   free_lanes-exact = record { exact = λ x y row. same_from_both _ _ (there x y row) (back x y row) }
     where
-      there : (x y : ℕ) → y < N → free_lanes piece rotation N F x y ≡ true → is_free_at F piece rotation (place_pivot piece rotation x y) ≡ true
-      there x y row held = search (rules, (and_parts (inside_lanes piece rotation N x y) (not (hit_all F N (lane_cells piece rotation) empty_field x y))), (list_all-map (is_open F) (moved (place_pivot piece rotation x y)) (shape piece rotation)), (all_open (shape piece rotation) empty_field x y), (from_rows N x y), (and_parts (rows_below N x y)), (shape_near_lane piece rotation), not-true)
+      there : (x y : ℕ) → y < N → free_lanes piece rotation N F x y ≡ true → is_free_at F piece rotation (lane_pivot piece rotation x y) ≡ true
+      there x y row held = search (rules, (and_parts (inside_lanes piece rotation N x y) (not (hit_all F N (lane_cells piece rotation) empty_field x y))), (list_all-map (is_open F) (moved (lane_pivot piece rotation x y)) (shape piece rotation)), (all_open (shape piece rotation) empty_field x y), (from_rows N x y), (and_parts (rows_below N x y)), (shape_near_lane piece rotation), not-true)
 
-      back : (x y : ℕ) → y < N → is_free_at F piece rotation (place_pivot piece rotation x y) ≡ true → free_lanes piece rotation N F x y ≡ true
+      back : (x y : ℕ) → y < N → is_free_at F piece rotation (lane_pivot piece rotation x y) ≡ true → free_lanes piece rotation N F x y ≡ true
       back x y row free =
-          let at = free_pivot F piece rotation (place_pivot piece rotation x y) free in
+          let at = free_pivot F piece rotation (lane_pivot piece rotation x y) free in
           let is : pos x ≡ pos at.x = ap (λ (c : Cell). c.0) at.is in
           let col : x < 10 = omega (arith, ints, at.in_columns) in
-          and_from _ _ (and_from _ _ (in_rows N x y col row) (free_fits F piece rotation (place_pivot piece rotation x y) free))
-          (not_from_false _ (all_missed (shape piece rotation) empty_field x y refl (sym (list_all-map (is_open F) (moved (place_pivot piece rotation x y)) (shape piece rotation)) ∙ free)))
+          and_from _ _ (and_from _ _ (in_rows N x y col row) (free_fits F piece rotation (lane_pivot piece rotation x y) free))
+          (not_from_false _ (all_missed (shape piece rotation) empty_field x y refl (sym (list_all-map (is_open F) (moved (lane_pivot piece rotation x y)) (shape piece rotation)) ∙ free)))
 
--- the place of a state is free where the state is
+-- the lane state of a state is free where the state is
 pub free_here : (F : Field) (N : ℕ) (s : Placement) (y : ℕ) → lane s ≡ pos y → y < N → (free : Field) → IsLaneMap F s.piece s.rotation N free → free s.x y ≡ is_free F s
 free_here F N s y at below free is = search rules
 
--- the resting places of a set are those whose state cannot move down
+-- the resting lane states of a set are those whose state cannot move down
 module _ (F : Field) (N : ℕ) (s : Placement) (y : ℕ) (at : lane s ≡ pos y) (below : y < N) (free S : Field) (is : IsLaneMap F s.piece s.rotation N free) (lies : LiesWithin free N) where
   lower_free : (k : ℕ) → y ≡ suc k → free s.x k ≡ is_free_at F s.piece s.rotation (lowered s 1)
   lower_free k e = search rules
 
-  -- a place is lifted from the one below
+  -- a lane state is lifted from the one below
   lifted : moved_within free N (pos 0) (pos 1) s.x y ≡ is_free_at F s.piece s.rotation (lowered s 1)
   unfolding moved
   lifted = same_from_both _ _ there back
@@ -194,10 +194,10 @@ module _ (F : Field) (N : ℕ) (s : Placement) (y : ℕ) (at : lane s ≡ pos y)
           let is_n = n.is in
           let row : y ≡ suc n.n = omega (arith, ints) in
           let filled : free s.x n.n ≡ true = lower_free n.n row ∙ lower in
-          let place = lies.inside s.x n.n filled in
+          let bounds = lies.inside s.x n.n filled in
           let p : pos s.x +ℤ pos 0 ≡ pos s.x = omega (arith, ints) in
           let q : pos n.n +ℤ pos 1 ≡ pos y = omega (arith, ints) in
-          moved_to free N (pos 0, pos 1) s.x n.n s.x y filled (λ i. (p i, q i)) place.0 below
+          moved_to free N (pos 0, pos 1) s.x n.n s.x y filled (λ i. (p i, q i)) bounds.0 below
 
   pub resting_lanes-exact : (S s.x y ≡ true → is_free F s ≡ true) → (resting_lanes N free S s.x y ≡ true) ↔ (IsResting F s × (S s.x y ≡ true))
   unfolding resting_lanes difference

@@ -29,8 +29,8 @@ use Rattle.low_flood.proofs.LaneMaps.{free_lanes-exact, from_rows, in_rows, rest
 use Rattle.low_flood.proofs.LaneTurns.{free_lane}
 use Rattle.low_flood.proofs.SkyBoards.{sky_board-exact}
 
--- the place of a state is held
-pub record HasPlace (S : Field) (s : Placement) : Type 0 where
+-- the lane state of a state is held
+pub record HasLaneState (S : Field) (s : Placement) : Type 0 where
   pub y : ℕ
   pub at : lane s ≡ pos y
   pub held : S s.x y ≡ true
@@ -50,21 +50,21 @@ cut_before piece rotation M S few rises = same_fields _ _ (λ x y. same_from_bot
         let way = moved_from (intersection S (rows_below M)) M (pos 0, neg_ℤ (lowest (shape piece rotation))) x y held in
         let parts = and_parts (S way.from_x way.from_y) _ way.filled in
         let from = from_rows M way.from_x way.from_y parts.1 in
-        let place = from_rows M x y (and_parts (rows_below M x y) _ held).0 in
-        and_from _ _ (moved_to (intersection S (rows_below 24)) 24 (pos 0, neg_ℤ (lowest (shape piece rotation))) way.from_x way.from_y x y (and_from _ _ parts.0 (in_rows 24 _ _ from.0 (omega (arith, from.1)))) way.there place.0 (omega (arith, place.1))) (in_rows M x y place.0 place.1)
+        let bounds = from_rows M x y (and_parts (rows_below M x y) _ held).0 in
+        and_from _ _ (moved_to (intersection S (rows_below 24)) 24 (pos 0, neg_ℤ (lowest (shape piece rotation))) way.from_x way.from_y x y (and_from _ _ parts.0 (in_rows 24 _ _ from.0 (omega (arith, from.1)))) way.there bounds.0 (omega (arith, bounds.1))) (in_rows M x y bounds.0 bounds.1)
 
     back : (x y : ℕ) → intersection (lane_pivots piece rotation S) (rows_below M) x y ≡ true → moved_within (intersection S (rows_below M)) M (pos 0) (neg_ℤ (lowest (shape piece rotation))) x y ≡ true
     back x y held =
         let both = and_parts (lane_pivots piece rotation S x y) _ held in
-        let place = from_rows M x y both.1 in
+        let bounds = from_rows M x y both.1 in
         let way = moved_from (intersection S (rows_below 24)) 24 (pos 0, neg_ℤ (lowest (shape piece rotation))) x y both.0 in
         let parts = and_parts (S way.from_x way.from_y) _ way.filled in
         let e : pos way.from_y +ℤ (neg_ℤ (lowest (shape piece rotation))) ≡ pos y = ap (λ (c : Cell). c.1) way.there in
         let from = from_rows 24 way.from_x way.from_y parts.1 in
-        let low : way.from_y < M = omega (arith, ints, place.1, rises) in
-        moved_to (intersection S (rows_below M)) M (pos 0, neg_ℤ (lowest (shape piece rotation))) way.from_x way.from_y x y (and_from _ _ parts.0 (in_rows M _ _ from.0 low)) way.there place.0 place.1
+        let low : way.from_y < M = omega (arith, ints, bounds.1, rises) in
+        moved_to (intersection S (rows_below M)) M (pos 0, neg_ℤ (lowest (shape piece rotation))) way.from_x way.from_y x y (and_from _ _ parts.0 (in_rows M _ _ from.0 low)) way.there bounds.0 bounds.1
 
-pub lane_pivots-from : (S : Field) (q : Placement) → lane_pivots q.piece q.rotation S q.x q.y ≡ true → HasPlace S q
+pub lane_pivots-from : (S : Field) (q : Placement) → lane_pivots q.piece q.rotation S q.x q.y ≡ true → HasLaneState S q
 unfolding lane_pivots intersection moved
 lane_pivots-from S q filled =
     let up = neg_ℤ (lowest (shape q.piece q.rotation)) in
@@ -75,17 +75,17 @@ lane_pivots-from S q filled =
     let held = (and_parts (S way.from_x way.from_y) (rows_below 24 way.from_x way.from_y) way.filled).0 in
     record { y = way.from_y; at = omega (arith, ints); held = subst (λ (x : ℕ). S x way.from_y ≡ true) column held }
 
-pub lane_pivots-to : (S : Field) (N : ℕ) (q : Placement) → N ≤ 16 → LiesWithin S N → HasPlace S q → lane_pivots q.piece q.rotation S q.x q.y ≡ true
+pub lane_pivots-to : (S : Field) (N : ℕ) (q : Placement) → N ≤ 16 → LiesWithin S N → HasLaneState S q → lane_pivots q.piece q.rotation S q.x q.y ≡ true
 unfolding lane_pivots intersection moved
 lane_pivots-to S N q few lies here =
     let up = neg_ℤ (lowest (shape q.piece q.rotation)) in
-    let place = lies.inside q.x here.y here.held in
+    let bounds = lies.inside q.x here.y here.held in
     let at = here.at in
     let small = lowest_near q.piece q.rotation in
     let p : pos q.x +ℤ pos 0 ≡ pos q.x = omega (arith, ints) in
     let e : pos here.y +ℤ neg_ℤ (lowest (shape q.piece q.rotation)) ≡ pos q.y = omega (arith, ints) in
-    let top : q.y < 24 = omega (arith, ints, place.1) in
-    moved_to (intersection S (rows_below 24)) 24 (pos 0, up) q.x here.y q.x q.y (and_from (S q.x here.y) _ here.held (in_rows 24 q.x here.y place.0 (omega (arith, place.1)))) (λ i. (p i, e i)) place.0 top
+    let top : q.y < 24 = omega (arith, ints, bounds.1) in
+    moved_to (intersection S (rows_below 24)) 24 (pos 0, up) q.x here.y q.x q.y (and_from (S q.x here.y) _ here.held (in_rows 24 q.x here.y bounds.0 (omega (arith, bounds.1)))) (λ i. (p i, e i)) bounds.0 top
 
 pub pivots_within : (piece : Piece) (rotation : Rotation) (S : Field) → LiesWithin (lane_pivots piece rotation S) 24
 unfolding lane_pivots moved_within
@@ -105,7 +105,7 @@ pub cut_exact : (M : ℕ) (P : Placement → Type 0) (piece : Piece) (S T : Stat
 unfolding has_state intersection
 cut_exact M P piece S T lies are cut = search (rules, and_parts, from_rows, and_from, in_rows)
 
--- the free places lie on the lanes, and what rests among places does so too
+-- the free lane states lie on the lanes, and what rests among lane states does so too
 pub free_within : (piece : Piece) (rotation : Rotation) (N : ℕ) (F : Field) → LiesWithin (free_lanes piece rotation N F) N
 unfolding free_lanes difference inside_lanes
 free_within piece rotation N F = search (rules, from_rows, and_parts)
@@ -164,8 +164,8 @@ module _ (F : Field) (r N : ℕ) (clear : IsClearFrom r F) (over : r + 2 ≤ N) 
       there held = elim (cases_Bool (has_own_cells q.piece q.rotation)) [
         | inl own ↦
             let here = lane_pivots-from (resting_lanes N free sky) q (sym (ap (λ (G : Field). G q.x q.y) (cond-true _ board empty_field own)) ∙ held) in
-            let place = (resting_within N free sky (sky_within q.piece q.rotation N free)).inside q.x here.y here.held in
-            let found = (rests_in_sky here.y here.at place.1).0 here.held in
+            let bounds = (resting_within N free sky (sky_within q.piece q.rotation N free)).inside q.x here.y here.held in
+            let found = (rests_in_sky here.y here.at bounds.1).0 here.held in
             law.1 (record { canonical = IsCanonical-from_test q own; state = q; rests = found.0; holds = found.1; same_cells = record { same = λ cell. refl } })
         | inr other ↦ absurd (false≢true (sym (ap (λ (G : Field). G q.x q.y) (cond-false _ board empty_field other)) ∙ held))
       ]

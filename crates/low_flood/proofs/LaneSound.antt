@@ -21,23 +21,23 @@ use Rattle.moves.proofs.CallerLemmas.{step_of-free, soft_allows, leads-append, n
 use Rattle.moves.specs.Sky.{IsClearFrom}
 use Rattle.moves.specs.RestingStates.{IsKeyed}
 use Rattle.moves.specs.Lanes.{lowest, lane}
-use Rattle.low_flood.specs.LaneFlood.{place_column}
+use Rattle.low_flood.specs.LaneFlood.{state_column}
 use Rattle.low_flood.specs.LaneTurns.{arrivals, lane_move}
 use Rattle.low_flood.proofs.LaneTests.{turned_within}
 use Rattle.place_sets.specs.Shifts.{sideways, lower, widened, widened_by, IsSpread}
 use Rattle.low_flood.specs.SkyBoard.{IsLaneMap, sky_board}
 use Rattle.low_flood.proofs.ClassLemmas.{class_lane, sky_same}
 use Rattle.place_sets.proofs.CallerLemmas.{LiesWithin, IsWithin, moved_from, widened-from}
-use Rattle.low_flood.proofs.LaneTurns.{class_place, class_pivot, is_low_move, arrived, Arrived}
+use Rattle.low_flood.proofs.LaneTurns.{class_lane_state, class_pivot, is_low_move, arrived, Arrived}
 use Rattle.low_flood.proofs.SkyBoards.{sky_board-exact}
 use Rattle.place_sets.specs.declared.spreading.Shifts.TheVariants as Shift
 
--- the state is at a place
+-- the state has a lane state
 pub record IsAt (t : Placement) (x y : ℕ) : Type 0 where
-  pub column : place_column t ≡ pos x
+  pub column : state_column t ≡ pos x
   pub at : lane t ≡ pos y
 
--- each place of the board is free, and keys lead to the state of the rotation that is there
+-- each lane state of the board is free, and keys lead to the state of the rotation that is there
 pub record IsSoundBoard (F : Field) (piece : Piece) (r : Rotation) (free B : Field) : Type 0 where
   pub within : IsWithin B free
   pub keyed : (t : Placement) (x y : ℕ) → t.piece ≡ piece → t.rotation ≡ r → IsAt t x y → B x y ≡ true → IsKeyed srs_table F Soft t
@@ -51,7 +51,7 @@ one_key F s t key kind keyed e = record {
 }
 
 module _ (F : Field) (N : ℕ) (piece : Piece) (r : Rotation) (free : Field) (is : IsLaneMap F piece (canonical_rotation piece r) N free) (lies : LiesWithin free N) where
-  -- the state at a free place
+  -- the state of a free lane state
   pub record StateAt (x y : ℕ) : Type 0 where
     pub s : Placement
     pub kind : s.piece ≡ piece
@@ -60,10 +60,10 @@ module _ (F : Field) (N : ℕ) (piece : Piece) (r : Rotation) (free : Field) (is
     pub at : IsAt s x y
     pub is_free_there : is_free F s ≡ true
 
-  pub state_at_place : (x y : ℕ) → free x y ≡ true → StateAt x y
-  state_at_place x y filled =
-      let place = lies.inside x y filled in
-      let is_free_here : is_free_at F piece r (class_pivot piece r (pos x) (pos y)) ≡ true = sym (class_place F piece r (pos x) (pos y)) ∙ sym (is.exact x y place.1) ∙ filled in
+  pub state_of_lane : (x y : ℕ) → free x y ≡ true → StateAt x y
+  state_of_lane x y filled =
+      let bounds = lies.inside x y filled in
+      let is_free_here : is_free_at F piece r (class_pivot piece r (pos x) (pos y)) ≡ true = sym (class_lane_state F piece r (pos x) (pos y)) ∙ sym (is.exact x y bounds.1) ∙ filled in
       let lies_at = free_pivot F piece r (class_pivot piece r (pos x) (pos y)) is_free_here in
       let p : pos x -ℤ (canonical_move piece r).0 ≡ pos lies_at.x = ap (λ (c : Cell). c.0) lies_at.is in
       let q : pos y -ℤ lowest (shape piece r) ≡ pos lies_at.y = ap (λ (c : Cell). c.1) lies_at.is in
@@ -76,19 +76,19 @@ module _ (F : Field) (N : ℕ) (piece : Piece) (r : Rotation) (free : Field) (is
         is_free_there = subst (λ (c : Cell). is_free_at F piece r c ≡ true) lies_at.is is_free_here;
       }
 
-  -- two states of the rotation at one place are one
+  -- two states of the rotation with one lane state are one
   same_state : (s t : Placement) (x y : ℕ) → s.piece ≡ piece → t.piece ≡ piece → s.rotation ≡ r → t.rotation ≡ r → IsAt s x y → IsAt t x y → s ≡ t
   same_state s t x y k l m n a b = search rules
 
-  -- a state at a free place is free
-  place_free : (t : Placement) (x y : ℕ) → t.piece ≡ piece → t.rotation ≡ r → IsAt t x y → free x y ≡ true → is_free F t ≡ true
-  place_free t x y kind turn at filled =
-      let s = state_at_place x y filled in
+  -- a state whose lane state is free is free
+  lane_state_free : (t : Placement) (x y : ℕ) → t.piece ≡ piece → t.rotation ≡ r → IsAt t x y → free x y ≡ true → is_free F t ≡ true
+  lane_state_free t x y kind turn at filled =
+      let s = state_of_lane x y filled in
       subst (λ (u : Placement). is_free F u ≡ true) (same_state s.s t x y s.kind kind s.turn turn s.at at) s.is_free_there
 
-  -- and a free state is at a free place
-  pub free_at_place : (t : Placement) (x y : ℕ) → t.piece ≡ piece → t.rotation ≡ r → IsAt t x y → y < N → is_free F t ≡ true → free x y ≡ true
-  free_at_place t x y kind turn at below t_free =
+  -- and the lane state of a free state is free
+  pub free_lane_state : (t : Placement) (x y : ℕ) → t.piece ≡ piece → t.rotation ≡ r → IsAt t x y → y < N → is_free F t ≡ true → free x y ≡ true
+  free_lane_state t x y kind turn at below t_free =
       let moves : (canonical_move t.piece t.rotation).0 ≡ (canonical_move piece r).0 = λ i. (canonical_move (kind i) (turn i)).0 in
       let floors : lowest (shape t.piece t.rotation) ≡ lowest (shape piece r) = λ i. lowest (shape (kind i) (turn i)) in
       let col = at.column in
@@ -97,20 +97,20 @@ module _ (F : Field) (N : ℕ) (piece : Piece) (r : Rotation) (free : Field) (is
       let to_y : pos y -ℤ lowest (shape piece r) ≡ pos t.y = omega (arith, ints) in
       let k = sym kind in
       let m = sym turn in
-      is.exact x y below ∙ class_place F piece r (pos x) (pos y) ∙ (λ i. is_free_at F (k i) (m i) (to_x i, to_y i)) ∙ t_free
+      is.exact x y below ∙ class_lane_state F piece r (pos x) (pos y) ∙ (λ i. is_free_at F (k i) (m i) (to_x i, to_y i)) ∙ t_free
 
-  -- a single move between free places
+  -- a single move between free lane states
   shift_there : (s t : Placement) (move : Cell) → s.piece ≡ t.piece → s.rotation ≡ t.rotation → moved (pivot_of s) move ≡ pivot_of t → is_free F t ≡ true → shifted F s move ≡ Some t
   unfolding shifted first_free
   shift_there s t move kind turn goes t_free = search (rules, cond-true)
 
-  -- a place beside a sound one, that is free, is sound
+  -- a lane state beside a sound one, that is free, is sound
   beside_keyed : (B : Field) → IsSoundBoard F piece r free B → (move : Cell) (key : Key) → ((s : Placement) → step_of srs_table F s key ≡ shifted F s move) →
       (t : Placement) (x y : ℕ) → t.piece ≡ piece → t.rotation ≡ r → IsAt t x y → free x y ≡ true → moved_within B N move.0 move.1 x y ≡ true → IsKeyed srs_table F Soft t
   unfolding moved
   beside_keyed B sound move key is_key t x y kind turn at filled beside =
       let way = moved_from B N move x y beside in
-      let s = state_at_place way.from_x way.from_y (sound.within.has way.from_x way.from_y way.filled) in
+      let s = state_of_lane way.from_x way.from_y (sound.within.has way.from_x way.from_y way.filled) in
       let keyed = sound.keyed s.s way.from_x way.from_y s.kind s.turn s.at way.filled in
       let p : pos way.from_x +ℤ move.0 ≡ pos x = ap (λ (c : Cell). c.0) way.there in
       let q : pos way.from_y +ℤ move.1 ≡ pos y = ap (λ (c : Cell). c.1) way.there in
@@ -124,7 +124,7 @@ module _ (F : Field) (N : ℕ) (piece : Piece) (r : Rotation) (free : Field) (is
       let t_y = at.at in
       let column : pos s.s.x +ℤ move.0 ≡ pos t.x = omega (arith, ints) in
       let row : pos s.s.y +ℤ move.1 ≡ pos t.y = omega (arith, ints) in
-      one_key F s.s t key (sym k) keyed (is_key s.s ∙ shift_there s.s t move k m (λ i. (column i, row i)) (place_free t x y kind turn at filled))
+      one_key F s.s t key (sym k) keyed (is_key s.s ∙ shift_there s.s t move k m (λ i. (column i, row i)) (lane_state_free t x y kind turn at filled))
 
   widened_sound : (B : Field) → IsSoundBoard F piece r free B → IsSoundBoard F piece r free (widened Shift.All N free B)
   unfolding sideways lower union
@@ -151,8 +151,8 @@ module _ (F : Field) (N : ℕ) (piece : Piece) (r : Rotation) (free : Field) (is
       keyed : (t : Placement) (x y : ℕ) → t.piece ≡ piece → t.rotation ≡ r → IsAt t x y → sky_board piece (canonical_rotation piece r) N free x y ≡ true → IsKeyed srs_table F Soft t
       keyed t x y kind turn at held =
           let filled = within.has x y held in
-          let place = lies.inside x y filled in
-          let t_free = place_free t x y kind turn at filled in
+          let bounds = lies.inside x y filled in
+          let t_free = lane_state_free t x y kind turn at filled in
           let pivot = canonical_pivot t (free_inside F t t_free) in
           let c = canonical_rotation t.piece t.rotation in
           let q : Placement = record { piece = t.piece; rotation = c; x = pivot.x; y = pivot.y } in
@@ -169,7 +169,7 @@ module _ (F : Field) (N : ℕ) (piece : Piece) (r : Rotation) (free : Field) (is
           let k = sym kind in
           let d = sym is_c in
           let on_board : sky_board t.piece c N free pivot.x y ≡ true = (λ i. sky_board (kind i) (is_c i) N free pivot.x y) ∙ ap (λ (x : ℕ). sky_board piece (canonical_rotation piece r) N free x y) (sym column) ∙ held in
-          let sky_q = (sky_board-exact F rows N clear fits few q y at_q free map_q place.1).0 on_board in
+          let sky_q = (sky_board-exact F rows N clear fits few q y at_q free map_q bounds.1).0 on_board in
           let sky_t = sky_same F q t (found_cells q t refl refl (sym pivot.is)) sky_q in
           let by = near t in
           let led_to = sky_is_reached F rows t clear (omega arith) sky_t (omega (arith, ints, by.low)) in
@@ -190,7 +190,7 @@ module _ (F : Field) (rows N : ℕ) (clear : IsClearFrom rows F) (over : rows + 
   turned_there : (a b : ℕ) → Arrived F rows N clear over few piece from to free_to is_to (kicks_of srs_table piece from to) S a b → Turned a b
   unfolding turned
   turned_there a b way =
-      let s = state_at_place F N piece from free_from is_from lies_from way.x way.y (sound.within.has way.x way.y way.held) in
+      let s = state_of_lane F N piece from free_from is_from lies_from way.x way.y (sound.within.has way.x way.y way.held) in
       let keyed = sound.keyed s.s way.x way.y s.kind s.turn s.at way.held in
       let t : Placement = record { piece = piece; rotation = to; x = way.col; y = way.row } in
       let goes : turned srs_table F s.s to ≡ Some t = (λ i. first_free F (s.kind i) to (map (moved (back s.pivot i)) (kicks_of srs_table (s.kind i) (s.turn i) to))) ∙ way.turns in
@@ -217,7 +217,7 @@ module _ (F : Field) (rows N : ℕ) (clear : IsClearFrom rows F) (over : rows + 
       has = λ x y held.
           let way = reach x y held in
           let row = way.at.at in
-          free_at_place F N piece to free_to is_to lies_to way.t x y way.kind way.turn way.at (below x y held) way.t_free;
+          free_lane_state F N piece to free_to is_to lies_to way.t x y way.kind way.turn way.at (below x y held) way.t_free;
     };
     keyed = λ t x y kind turn at held.
         let way = reach x y held in

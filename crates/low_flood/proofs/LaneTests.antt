@@ -1,4 +1,4 @@
--- One test of a turn on boards finds the places from which the test leads to an open place; five tests are a turn.
+-- One test of a turn on boards finds the lane states from which the test leads to an open one; five tests are a turn.
 use Rattle.std.proofs.Common.{◌≡◌, ℕ, ◌+◌, ◌-◌, ◌<◌, ◌≤◌, true, false, ◌&&◌, lt-ltb, ℤ, pos, negsuc, ◌+ℤ◌, ◌≤ℤ◌, List, [], ◌∷◌, refl, sym, ap, ◌∙◌, inl, inr, arith, rules}
 use Rattle.std.specs.Prelude.{neg_ℤ, nat_abs, ◌<ℤ◌}
 use Rattle.std.proofs.lemmas.Int.{ints}
@@ -53,7 +53,7 @@ module _ (N : ℕ) (piece : Piece) (rotation : Rotation) (free : Field) (lies : 
   abbrev inside : Field
   inside = inside_lanes piece rotation N
 
-  -- below the lanes' end a place is open where it is free
+  -- below the lanes' end a lane state is open where it is free
   opens_free : (x y : ℕ) → y < N → O x y ≡ free x y
   unfolding opened
   opens_free x y below = cond-true _ (free x y) (fits_column piece rotation (pos x)) (lt-ltb y N below)
@@ -76,7 +76,7 @@ module _ (N : ℕ) (piece : Piece) (rotation : Rotation) (free : Field) (lies : 
             let fits = sym (opens_above a b high) ∙ opened_at in
             or_right (moved_within free N (neg_ℤ move.0) (neg_ℤ move.1) x y) _ (and_from _ _
             (moved_to inside N (neg_ℤ move.0, pos 0) a y x y (and_from _ _ (in_rows N a y (fits_small piece rotation a fits) row) fits) (λ i. (back_x i, still i)) column row)
-            (not_from_false _ (false_from_ne_true _ (λ stays. let place = from_rows (N - not_below_zero move.1) x y stays in too_low move.1 q high place.1))))
+            (not_from_false _ (false_from_ne_true _ (λ stays. let bounds = from_rows (N - not_below_zero move.1) x y stays in too_low move.1 q high bounds.1))))
       ]
     where
       too_low : (z : ℤ) → pos y +ℤ z ≡ pos b → N ≤ b → y < N - not_below_zero z → ⊥
@@ -96,16 +96,16 @@ module _ (N : ℕ) (piece : Piece) (rotation : Rotation) (free : Field) (lies : 
         let way = moved_from free N (neg_ℤ move.0, neg_ℤ move.1) x y on in
         let p : pos way.from_x +ℤ neg_ℤ move.0 ≡ pos x = ap (λ (c : Cell). c.0) way.there in
         let q : pos way.from_y +ℤ neg_ℤ move.1 ≡ pos y = ap (λ (c : Cell). c.1) way.there in
-        let place = lies.inside way.from_x way.from_y way.filled in
+        let bounds = lies.inside way.from_x way.from_y way.filled in
         let to_x : pos x +ℤ move.0 ≡ pos way.from_x = omega (arith, ints) in
         let to_y : pos y +ℤ move.1 ≡ pos way.from_y = omega (arith, ints) in
-        record { a = way.from_x; b = way.from_y; is = λ i. (to_x i, to_y i); opens = opens_free way.from_x way.from_y place.1 ∙ way.filled }
+        record { a = way.from_x; b = way.from_y; is = λ i. (to_x i, to_y i); opens = opens_free way.from_x way.from_y bounds.1 ∙ way.filled }
     | inr over ↦
         let parts = and_parts (moved_within inside N (neg_ℤ move.0) (pos 0) x y) _ over in
         let way = moved_from inside N (neg_ℤ move.0, pos 0) x y parts.0 in
         let p : pos way.from_x +ℤ neg_ℤ move.0 ≡ pos x = ap (λ (c : Cell). c.0) way.there in
         let in_parts = and_parts (rows_below N way.from_x way.from_y) (fits_column piece rotation (pos way.from_x)) way.filled in
-        let place = from_rows N way.from_x way.from_y in_parts.0 in
+        let bounds = from_rows N way.from_x way.from_y in_parts.0 in
         let column : pos x +ℤ move.0 ≡ pos way.from_x = omega (arith, ints) in
         let left : (N - not_below_zero move.1) ≤ y = high (not-true _ parts.1) (moved-within inside N (neg_ℤ move.0) (pos 0) x y parts.0).0 in
         let up = risen move.1 left in
@@ -122,7 +122,7 @@ module _ (N : ℕ) (piece : Piece) (rotation : Rotation) (free : Field) (lies : 
       risen (pos k) left = (y + k, omega (arith, ints), omega arith)
       risen (negsuc k) left = absurd (omega arith)
 
-  -- the places of a set from which the move leads to an open place
+  -- the lane states of a set from which the move leads to an open one
   pub hits-by : (S : Field) → LiesWithin S N → intersection S (opening N free inside move) ≡ hits O move S
   unfolding intersection hits moved has_cell
   hits-by S within = same_fields _ _ (λ x y. same_from_both _ _ (there x y) (back x y))
@@ -142,8 +142,8 @@ module _ (N : ℕ) (piece : Piece) (rotation : Rotation) (free : Field) (lies : 
       back : (x y : ℕ) → (S x y && has_cell O (pos x +ℤ move.0) (pos y +ℤ move.1)) ≡ true → (S x y && opening N free inside move x y) ≡ true
       back x y held =
           let parts = and_parts (S x y) (has_cell O (pos x +ℤ move.0) (pos y +ℤ move.1)) held in
-          let place = within.inside x y parts.0 in
-          and_from _ _ parts.0 (at (pos x +ℤ move.0) (pos y +ℤ move.1) refl refl parts.1 place.0 place.1)
+          let bounds = within.inside x y parts.0 in
+          and_from _ _ parts.0 (at (pos x +ℤ move.0) (pos y +ℤ move.1) refl refl parts.1 bounds.0 bounds.1)
         where
           at : (c d : ℤ) → pos x +ℤ move.0 ≡ c → pos y +ℤ move.1 ≡ d → has_cell O c d ≡ true → x < 10 → y < N → opening N free inside move x y ≡ true
           at (pos a) (pos b) p q opened_at col row = open_there x y a b (λ i. (p i, q i)) opened_at col row

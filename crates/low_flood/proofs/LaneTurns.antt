@@ -1,4 +1,4 @@
--- A quarter turn on lanes is a quarter turn: the places above the lanes are free where the columns allow it.
+-- A quarter turn on lanes is a quarter turn: the lane states above the lanes are free where the columns allow it.
 use Rattle.std.proofs.Common.{◌≡◌, ◌⊎◌, ℕ, ◌+◌, ◌<◌, ◌≤◌, Bool, true, false, not, ◌&&◌, cond, ltb-true, lt-ltb, ℤ, pos, negsuc, ◌+ℤ◌, ◌-ℤ◌, ◌≤ℤ◌, Some, List, [], ◌∷◌, map, refl, sym, ap, ◌∙◌, inl, inr, arith, rules}
 use Rattle.std.specs.Prelude.{int_le}
 use Rattle.std.specs.List.{list_all}
@@ -77,7 +77,7 @@ module _ (F : Field) (r N : ℕ) (clear : IsClearFrom r F) (over : r + 2 ≤ N) 
   left_of_all : (x : ℕ) (y : ℤ) → is_free_at F piece to (negsuc x, y -ℤ lowest (shape piece to)) ≡ false
   left_of_all x y = search (rules, false_from_ne_true, (free_pivot F piece to (negsuc x, y -ℤ lowest (shape piece to))))
 
-  -- an open place is a free state, up to lane 18
+  -- an open lane state is a free state, up to lane 18
   pub opened_exact : (x y : ℤ) → y ≤ℤ pos 18 → has_cell (opened piece to N free) x y ≡ is_free_at F piece to (x, y -ℤ lowest (shape piece to))
   unfolding has_cell opened pivot_at
   opened_exact (pos x) (pos y) low = search (rules, (cases_lt y N), cond-true, (lt-ltb y N), cond-false, false_from_ne_true, (ltb-true y N), (above x y))
@@ -85,14 +85,14 @@ module _ (F : Field) (r N : ℕ) (clear : IsClearFrom r F) (over : r + 2 ≤ N) 
   opened_exact (negsuc x) (pos y) low = sym (left_of_all x (pos y))
   opened_exact (negsuc x) (negsuc y) low = sym (left_of_all x (negsuc y))
 
--- the place of a state: the column of its canonical pivot, and its lane
+-- the lane state of a state: the column of its canonical pivot, and its lane
 abbrev pub class_pivot : Piece → Rotation → ℤ → ℤ → Cell
 class_pivot piece rotation x y = (x -ℤ (canonical_move piece rotation).0, y -ℤ lowest (shape piece rotation))
 
 -- it is free where the canonical state with its cells is
-pub class_place : (F : Field) (piece : Piece) (rotation : Rotation) (x y : ℤ) → is_free_at F piece (canonical_rotation piece rotation) (x, y -ℤ lowest (shape piece (canonical_rotation piece rotation))) ≡ is_free_at F piece rotation (class_pivot piece rotation x y)
+pub class_lane_state : (F : Field) (piece : Piece) (rotation : Rotation) (x y : ℤ) → is_free_at F piece (canonical_rotation piece rotation) (x, y -ℤ lowest (shape piece (canonical_rotation piece rotation))) ≡ is_free_at F piece rotation (class_pivot piece rotation x y)
 unfolding moved
-class_place F piece rotation x y =
+class_lane_state F piece rotation x y =
     let m = canonical_move piece rotation in
     let low = class_lane piece rotation in
     let column : (x -ℤ m.0) +ℤ m.0 ≡ x = omega (arith, ints) in
@@ -121,14 +121,14 @@ module _ (F : Field) (r N : ℕ) (clear : IsClearFrom r F) (over : r + 2 ≤ N) 
   abbrev O : Field
   O = opened piece (canonical_rotation piece to) N free
 
-  -- the pivot of the state at a place
+  -- the pivot of the state of a lane state
   abbrev pivot : ℕ → ℕ → Cell
   pivot x y = class_pivot piece from (pos x) (pos y)
 
   abbrev pivots : ℕ → ℕ → List Cell → List Cell
   pivots x y kicks = map (moved (pivot x y)) kicks
 
-  -- a test succeeds where its place is open
+  -- a test succeeds where its lane state is open
   hit_is : (x y : ℕ) (kick : Cell) → y < N → is_low_move piece from to kick ≡ true →
       has_cell O (pos x +ℤ (lane_move piece from to kick).0) (pos y +ℤ (lane_move piece from to kick).1) ≡ is_free_at F piece to (moved (pivot x y) kick)
   unfolding is_low_move moved
@@ -138,12 +138,12 @@ module _ (F : Field) (r N : ℕ) (clear : IsClearFrom r F) (over : r + 2 ≤ N) 
       let column : (pos x +ℤ move.0) -ℤ (canonical_move piece to).0 ≡ (pos x -ℤ (canonical_move piece from).0) +ℤ kick.0 = omega (arith, ints) in
       let row : (pos y +ℤ move.1) -ℤ lowest (shape piece to) ≡ (pos y -ℤ lowest (shape piece from)) +ℤ kick.1 = omega (arith, ints) in
       opened_exact F r N clear over piece (canonical_rotation piece to) free is (pos x +ℤ move.0) (pos y +ℤ move.1) (omega (arith, ints))
-      ∙ class_place F piece to (pos x +ℤ move.0) (pos y +ℤ move.1)
+      ∙ class_lane_state F piece to (pos x +ℤ move.0) (pos y +ℤ move.1)
       ∙ (λ i. is_free_at F piece to (column i, row i))
 
-  turn_place : (x y : ℕ) (k : Cell) (a b col row lx ly : ℕ) → moved (pivot x y) k ≡ (pos lx, pos ly) → lx ≡ col → ly ≡ row → pos col +ℤ (canonical_move piece to).0 ≡ pos a → pos row +ℤ lowest (shape piece to) ≡ pos b → moved (pos x, pos y) (lane_move piece from to k) ≡ (pos a, pos b)
+  turn_lane_state : (x y : ℕ) (k : Cell) (a b col row lx ly : ℕ) → moved (pivot x y) k ≡ (pos lx, pos ly) → lx ≡ col → ly ≡ row → pos col +ℤ (canonical_move piece to).0 ≡ pos a → pos row +ℤ lowest (shape piece to) ≡ pos b → moved (pos x, pos y) (lane_move piece from to k) ≡ (pos a, pos b)
   unfolding moved
-  turn_place x y k a b col row lx ly e f g column_is lane_is =
+  turn_lane_state x y k a b col row lx ly e f g column_is lane_is =
       let p : (pos x -ℤ (canonical_move piece from).0) +ℤ k.0 ≡ pos lx = ap (λ (c : Cell). c.0) e in
       let q : (pos y -ℤ lowest (shape piece from)) +ℤ k.1 ≡ pos ly = ap (λ (c : Cell). c.1) e in
       let column : pos x +ℤ (k.0 +ℤ ((canonical_move piece to).0 -ℤ (canonical_move piece from).0)) ≡ pos a = omega (arith, ints) in
@@ -176,12 +176,12 @@ module _ (F : Field) (r N : ℕ) (clear : IsClearFrom r F) (over : r + 2 ≤ N) 
           let same = some_same (sym (ap (state_at piece to) lies.is) ∙ lands) in
           let at_x : lies.x ≡ col = ap (λ (s : Placement). s.x) same in
           let at_y : lies.y ≡ row = ap (λ (s : Placement). s.y) same in
-          let there = turn_place x y k a b col row lies.x lies.y lies.is at_x at_y column_is lane_is in
+          let there = turn_lane_state x y k a b col row lies.x lies.y lies.is at_x at_y column_is lane_is in
           let move = lane_move piece from to k in
           turned_keeps O N (map (lane_move piece from to) ks) (difference S (hits O move S)) (union before (moved_within (hits O move S) N move.0 move.1)) a b
           (or_right (before a b) (moved_within (hits O move S) N move.0 move.1 a b) (moved_to (hits O move S) N move x y a b hit there column lanes))
 
-  -- each arrival is one that was there before, or the state to which a turn leads from a place
+  -- each arrival is one that was there before, or the state to which a turn leads from a lane state
   pub record Arrived (kicks : List Cell) (S : Field) (a b : ℕ) : Type 0 where
     pub x : ℕ
     pub y : ℕ
@@ -197,8 +197,8 @@ module _ (F : Field) (r N : ℕ) (clear : IsClearFrom r F) (over : r + 2 ≤ N) 
   arrived_by k ks S a b small lies way =
       let move = lane_move piece from to k in
       let parts = and_parts (S way.from_x way.from_y) (has_cell O (pos way.from_x +ℤ move.0) (pos way.from_y +ℤ move.1)) way.filled in
-      let place = lies.inside way.from_x way.from_y parts.0 in
-      let there : is_free_at F piece to (moved (pivot way.from_x way.from_y) k) ≡ true = sym (hit_is way.from_x way.from_y k place.1 small) ∙ parts.1 in
+      let bounds = lies.inside way.from_x way.from_y parts.0 in
+      let there : is_free_at F piece to (moved (pivot way.from_x way.from_y) k) ≡ true = sym (hit_is way.from_x way.from_y k bounds.1 small) ∙ parts.1 in
       let at = free_pivot F piece to (moved (pivot way.from_x way.from_y) k) there in
       let p : (pos way.from_x -ℤ (canonical_move piece from).0) +ℤ k.0 ≡ pos at.x = ap (λ (c : Cell). c.0) at.is in
       let q : (pos way.from_y -ℤ lowest (shape piece from)) +ℤ k.1 ≡ pos at.y = ap (λ (c : Cell). c.1) at.is in
@@ -233,9 +233,9 @@ module _ (F : Field) (r N : ℕ) (clear : IsClearFrom r F) (over : r + 2 ≤ N) 
         ]
         | inr later ↦
             let both = and_parts (S later.x later.y) (not (hits O move S later.x later.y)) later.held in
-            let place = lies.inside later.x later.y both.0 in
+            let bounds = lies.inside later.x later.y both.0 in
             let none : has_cell O (pos later.x +ℤ move.0) (pos later.y +ℤ move.1) ≡ false = false_from_ne_true _ (λ has. both_ways _ (not-true _ both.1) (and_from (S later.x later.y) _ both.0 has)) in
-            let blocked : is_free_at F piece to (moved (pivot later.x later.y) k) ≡ false = sym (hit_is later.x later.y k place.1 parts.0) ∙ none in
+            let blocked : is_free_at F piece to (moved (pivot later.x later.y) k) ≡ false = sym (hit_is later.x later.y k bounds.1 parts.0) ∙ none in
             inr (record {
               x = later.x;
               y = later.y;

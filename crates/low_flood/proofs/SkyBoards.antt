@@ -15,7 +15,7 @@ use Rattle.moves.specs.Lanes.{lane}
 use Rattle.low_flood.specs.SkyBoard.{with_lower, inside_lanes, IsLaneMap, sky_board}
 use Rattle.moves.proofs.CallerLemmas.{free_fits, sky_free, near, sky_from}
 
--- R has the places of N lanes that have a cell of B fewer than n rows above them
+-- R has the states of N lanes that have a cell of B fewer than n rows above them
 record Found (B : Field) (n x y : ℕ) : Type 0 where
   j : ℕ
   near_by : j < n
@@ -56,11 +56,11 @@ smear_twice N n B R lies smear = record { from = from; to = to }
     to x y j within filled = elim (cases_lt j n) [
       | inl less ↦ or_left (R x y) (moved_within R N (pos 0) (minus n) x y) (smear.to x y j less filled)
       | inr more ↦
-          let place = lies.inside x (y + j) filled in
+          let bounds = lies.inside x (y + j) filled in
           let here : R x (y + n) ≡ true = smear.to x (y + n) (j - n) (omega arith) (same_cell B x (y + j) ((y + n) + (j - n)) (omega arith) filled) in
           let column : pos x +ℤ pos 0 ≡ pos x = omega (arith, ints) in
           let row : pos (y + n) +ℤ minus n ≡ pos y = omega (arith, ints) in
-          or_right (R x y) (moved_within R N (pos 0) (minus n) x y) (moved_to R N (pos 0, minus n) x (y + n) x y here (λ i. (column i, row i)) place.0 (omega (arith, place.1)))
+          or_right (R x y) (moved_within R N (pos 0) (minus n) x y) (moved_to R N (pos 0, minus n) x (y + n) x y here (λ i. (column i, row i)) bounds.0 (omega (arith, bounds.1)))
     ]
 
 -- the board of a rotation, at the states of that rotation
@@ -79,7 +79,7 @@ module _ (F : Field) (r N : ℕ) (clear : IsClearFrom r F) (over : r ≤ N) (few
   smear =
       search (rules, (smear_twice N 8 blocked (with_lower N 4 (with_lower N 2 (with_lower N 1 blocked))) lies (smear_twice N 4 blocked (with_lower N 2 (with_lower N 1 blocked)) lies (smear_twice N 2 blocked (with_lower N 1 blocked) lies (smear_twice N 1 blocked blocked lies (smear_none N blocked))))))
 
-  -- an inside place is blocked or free
+  -- an inside lane state is blocked or free
   inside_at : (b : ℕ) → b < N → s.x < 10 → fits_column s.piece s.rotation (pos s.x) ≡ true → inside_lanes s.piece s.rotation N s.x b ≡ true
   unfolding inside_lanes rows_below
   inside_at b below column fits = and_from _ _ (and_from _ _ (lt-ltb s.x 10 column) (lt-ltb b N below)) fits
@@ -98,21 +98,21 @@ module _ (F : Field) (r N : ℕ) (clear : IsClearFrom r F) (over : r ≤ N) (few
       parts : (inside_lanes s.piece s.rotation N s.x y ≡ true) × (not (with_lower N 8 (with_lower N 4 (with_lower N 2 (with_lower N 1 blocked))) s.x y) ≡ true)
       parts = and_parts (inside_lanes s.piece s.rotation N s.x y) _ held
 
-      place : (s.x < 10) × (y < N) × (fits_column s.piece s.rotation (pos s.x) ≡ true)
-      place = is_inside y parts.0
+      bounds : (s.x < 10) × (y < N) × (fits_column s.piece s.rotation (pos s.x) ≡ true)
+      bounds = is_inside y parts.0
 
       none : s.y + 0 ≡ s.y
       none = omega arith
 
       here : y + 0 < N
-      here = let below = place.1 in omega arith
+      here = let below = bounds.1 in omega arith
 
       free_up : (j : ℕ) → y + j < N → is_free_at F s.piece s.rotation (pos s.x, pos (s.y + j)) ≡ true
       free_up j below = elim (cases_Bool (free s.x (y + j))) [
         | inl open_there ↦ sym (at_lane j below) ∙ open_there
         | inr shut ↦
             absurd (both_ways _ (not-true _ parts.1)
-            (smear.to s.x y j (omega arith) (and_from (inside_lanes s.piece s.rotation N s.x (y + j)) (not (free s.x (y + j))) (inside_at (y + j) below place.0 place.2) (ap not shut))))
+            (smear.to s.x y j (omega arith) (and_from (inside_lanes s.piece s.rotation N s.x (y + j)) (not (free s.x (y + j))) (inside_at (y + j) below bounds.0 bounds.2) (ap not shut))))
       ]
 
       free_to : (j : ℕ) → (lane s +ℤ pos j) <ℤ pos r → is_free_at F s.piece s.rotation (pos s.x, pos (s.y + j)) ≡ true

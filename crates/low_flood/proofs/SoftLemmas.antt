@@ -15,7 +15,7 @@ use Rattle.low_flood.specs.LaneFlood.{Lanes, IsLanesClosed}
 use Rattle.low_flood.specs.LaneTurns.{arrivals}
 use Rattle.place_sets.specs.Shifts.{IsSpread, sideways, lower}
 use Rattle.low_flood.specs.SkyBoard.{sky_board, with_lower}
-use Rattle.low_flood.specs.SoftLanes.{skies, with_rotation, places_of, rests_in, lacking, HaveAllRests, AreSpread, IsTurnedInto, IsRound, Rounds, IsSoftFlood}
+use Rattle.low_flood.specs.SoftLanes.{skies, with_rotation, states_of_canonical, rests_in, lacking, HaveAllRests, AreSpread, IsTurnedInto, IsRound, Rounds, IsSoftFlood}
 use Rattle.place_sets.specs.States.{states_with}
 use Rattle.place_sets.proofs.CallerLemmas.{LiesWithin, IsWithin, within_both, cell_count-more, fields-same, spread-has, still-has, same_states, with_here, with_other, missing}
 
@@ -26,9 +26,9 @@ spread_each N free S T a b c d = search rules
 none_lacks : (piece : Piece) (N : ℕ) (free S : Lanes) → ((r : Rotation) (x y : ℕ) → lacking piece N free S r x y ≡ false) → HaveAllRests piece N free S
 unfolding lacking difference
 none_lacks piece N free S none = record {
-  each = λ r x y own rests. elim (cases_Bool (places_of piece S r x y)) [
+  each = λ r x y own rests. elim (cases_Bool (states_of_canonical piece S r x y)) [
     | inl held ↦ held
-    | inr lost ↦ absurd (both_ways _ (none r x y) (ap (λ (G : Field). G x y) (cond-true _ (difference (rests_in N free r) (places_of piece S r)) empty_field own) ∙ and_from _ _ rests (not_from_false _ lost)))
+    | inr lost ↦ absurd (both_ways _ (none r x y) (ap (λ (G : Field). G x y) (cond-true _ (difference (rests_in N free r) (states_of_canonical piece S r)) empty_field own) ∙ and_from _ _ rests (not_from_false _ lost)))
   ];
 }
 
@@ -92,7 +92,7 @@ pub rounds_grow : (n : ℕ) (piece : Piece) (N : ℕ) (free S T : Lanes) → Rou
 rounds_grow zero piece N free S T e = grows_same S T e
 rounds_grow (suc n) piece N free S T way = grows_trans S way.0 T (rounds_grow n piece N free S way.0 way.1.0) (round_grows piece N free way.0 T way.1.1)
 
--- fewer places are missing after a round that changes something
+-- fewer lane states are missing after a round that changes something
 pub missing_less : (N : ℕ) (S T : Lanes) (r : Rotation) → Grows S T → ((r : Rotation) → LiesWithin (T r) N) → T r ≢ S r → missing N T < missing N S
 missing_less N S T r grows lies differ = search (rules, cases_lt, fields-same, (cell_count-more (S r) (T r) (grows.each r) N), cell_count-le)
 
@@ -200,13 +200,13 @@ unfolding sky_board difference
 sky_is_free piece rotation N free =
     search (rules, and_parts, cases_Bool, both_ways, not-true, lower_has, and_from, not_from_false)
 
--- the places of the rotations with one canonical rotation
-pub record IsPlaceOf (piece : Piece) (S : Lanes) (c : Rotation) (x y : ℕ) : Type 0 where
+-- the lane states of the rotations with one canonical rotation
+pub record IsLaneStateOf (piece : Piece) (S : Lanes) (c : Rotation) (x y : ℕ) : Type 0 where
   pub r : Rotation
   pub canonical : canonical_rotation piece r ≡ c
   pub held : S r x y ≡ true
 
-with_rotation-from : (piece : Piece) (S : Lanes) (c r : Rotation) (B : Field) (x y : ℕ) → with_rotation piece S c r B x y ≡ true → (B x y ≡ true) ⊎ IsPlaceOf piece S c x y
+with_rotation-from : (piece : Piece) (S : Lanes) (c r : Rotation) (B : Field) (x y : ℕ) → with_rotation piece S c r B x y ≡ true → (B x y ≡ true) ⊎ IsLaneStateOf piece S c x y
 unfolding with_rotation union
 with_rotation-from piece S c r B x y held =
     search (rules, cases_Bool, or_cases, cond-true, rotation_index-injective, eqb-true, cond-false)
@@ -219,10 +219,10 @@ with_rotation-has : (piece : Piece) (S : Lanes) (c r : Rotation) (B : Field) (x 
 unfolding with_rotation union
 with_rotation-has piece S c r B x y e held = search (rules, cond-true, eq-eqb, or_right)
 
-pub places_of-from : (piece : Piece) (S : Lanes) (c : Rotation) (x y : ℕ) → places_of piece S c x y ≡ true → IsPlaceOf piece S c x y
-unfolding places_of empty_field
-places_of-from piece S c x y held = search (rules, with_rotation-from, false≢true)
+pub states_of_canonical-from : (piece : Piece) (S : Lanes) (c : Rotation) (x y : ℕ) → states_of_canonical piece S c x y ≡ true → IsLaneStateOf piece S c x y
+unfolding states_of_canonical empty_field
+states_of_canonical-from piece S c x y held = search (rules, with_rotation-from, false≢true)
 
-pub places_of-has : (piece : Piece) (S : Lanes) (r : Rotation) (x y : ℕ) → S r x y ≡ true → places_of piece S (canonical_rotation piece r) x y ≡ true
-unfolding places_of empty_field
-places_of-has piece S r x y held = search (rules, with_rotation-keeps, with_rotation-has)
+pub states_of_canonical-has : (piece : Piece) (S : Lanes) (r : Rotation) (x y : ℕ) → S r x y ≡ true → states_of_canonical piece S (canonical_rotation piece r) x y ≡ true
+unfolding states_of_canonical empty_field
+states_of_canonical-has piece S r x y held = search (rules, with_rotation-keeps, with_rotation-has)

@@ -1,4 +1,4 @@
--- The canonical placements that rest at places of a soft flood are the places of a soft drop.
+-- The canonical placements that rest at lane states of a soft flood are the places of a soft drop.
 use Rattle.std.proofs.Common.{◌≡◌, ◌↔◌, ◌⊎◌, ℕ, zero, suc, ◌+◌, ◌-◌, ◌%◌, ◌<◌, ◌≤◌, true, not, ◌||◌, ◌==◌, ℤ, pos, ◌+ℤ◌, refl, sym, ap, subst, ◌∙◌, inl, inr, arith, rules}
 use Rattle.std.specs.Prelude.{◌<ℤ◌, IsTrue, nat_le}
 use Rattle.std.specs.List.{list_all}
@@ -31,15 +31,15 @@ use Rattle.low_flood.specs.LanePlaces.{IsCut, lane_pivots, has_own_cells}
 use Rattle.low_flood.specs.LaneTurns.{arrivals}
 use Rattle.place_sets.specs.States.{HasExactly, IsUnder, has_state}
 use Rattle.low_flood.specs.SkyBoard.{IsLaneMap}
-use Rattle.low_flood.specs.SoftLanes.{free_boards, skies, places_of, rests_in, soft_board, HaveAllRests, AreSpread, IsTurnedInto, IsRound, Rounds, IsSoftFlood}
+use Rattle.low_flood.specs.SoftLanes.{free_boards, skies, states_of_canonical, rests_in, soft_board, HaveAllRests, AreSpread, IsTurnedInto, IsRound, Rounds, IsSoftFlood}
 use Rattle.low_flood.proofs.ClassLemmas.{class_lane, rests_same}
 use Rattle.place_sets.proofs.CallerLemmas.{LiesWithin}
 use Rattle.low_flood.proofs.LaneClosed.{lanes_flood}
 use Rattle.low_flood.proofs.LaneMaps.{free_lanes-exact, resting_lanes-exact, free_here}
 use Rattle.low_flood.proofs.LanePlaceLemmas.{cut_exact, lane_pivots-from, lane_pivots-to, free_within, own_within, pivots_within, resting_within}
-use Rattle.low_flood.proofs.LaneSound.{IsAt, IsSoundBoard, state_at_place, spread_sound, union_sound, sky_sound, arrivals_sound}
+use Rattle.low_flood.proofs.LaneSound.{IsAt, IsSoundBoard, state_of_lane, spread_sound, union_sound, sky_sound, arrivals_sound}
 use Rattle.low_flood.proofs.LaneTurns.{free_lane, clockwise_low, anti_low, is_low_move}
-use Rattle.low_flood.proofs.SoftLemmas.{begun_grows, round_closes, sky_is_free, IsPlaceOf, places_of-from, places_of-has, in_rotation}
+use Rattle.low_flood.proofs.SoftLemmas.{begun_grows, round_closes, sky_is_free, IsLaneStateOf, states_of_canonical-from, states_of_canonical-has, in_rotation}
 
 pub many_rows : (n : ℕ) → IsTrue (is_lane_count n) → 8 ≤ n
 many_rows n is = leb-true 8 n (and_parts (nat_le 8 n) (nat_le n 32) (and_parts (n % 8 == 0) _ is).1).0
@@ -119,10 +119,10 @@ module _ (F : Field) (rows N : ℕ) (clear : IsClearFrom rows F) (over : rows + 
     | inr still ↦ inr (round_closes piece N free S still (begun_grows piece N free S flood))
   ]
 
-  -- the canonical placement with a state's cells is at its place
-  place_same : (s q : Placement) (x y : ℕ) → HasSameCells s q → IsCanonical q → is_free F s ≡ true → IsAt s x y → (q.x ≡ x) × (lane q ≡ pos y) × (canonical_rotation s.piece s.rotation ≡ q.rotation)
+  -- the canonical placement with a state's cells has its lane state
+  lane_state_same : (s q : Placement) (x y : ℕ) → HasSameCells s q → IsCanonical q → is_free F s ≡ true → IsAt s x y → (q.x ≡ x) × (lane q ≡ pos y) × (canonical_rotation s.piece s.rotation ≡ q.rotation)
   unfolding moved
-  place_same s q x y same canonical s_free at =
+  lane_state_same s q x y same canonical s_free at =
       let pivot = canonical_pivot s (free_inside F s s_free) in
       let t : Placement = record { piece = s.piece; rotation = canonical_rotation s.piece s.rotation; x = pivot.x; y = pivot.y } in
       let e = canonical_unique t q (found_canonical t s refl refl) canonical (same_cells-trans (found_cells t s refl refl (sym pivot.is)) same) in
@@ -151,30 +151,30 @@ module _ (F : Field) (rows N : ℕ) (clear : IsClearFrom rows F) (over : rows + 
     free_q own y at below q_free = free_here F N q y at below (free q.rotation) (map_q own) ∙ q_free
 
     abbrev board : Field
-    board = lane_pivots piece q.rotation (intersection (rests_in N free q.rotation) (places_of piece S q.rotation))
+    board = lane_pivots piece q.rotation (intersection (rests_in N free q.rotation) (states_of_canonical piece S q.rotation))
 
     there : soft_board piece N free S q.rotation q.x q.y ≡ true → IsPlace srs_table F Soft q
     unfolding soft_board empty_field intersection moved
     there held = elim (cases_Bool (has_own_cells piece q.rotation)) [
       | inr other ↦ absurd (false≢true (sym (ap (λ (G : Field). G q.x q.y) (cond-false _ board empty_field other)) ∙ held))
       | inl own ↦
-          let on_board : lane_pivots q.piece q.rotation (intersection (rests_in N free q.rotation) (places_of piece S q.rotation)) q.x q.y ≡ true =
-          ap (λ (p : Piece). lane_pivots p q.rotation (intersection (rests_in N free q.rotation) (places_of piece S q.rotation)) q.x q.y) kind ∙ sym (ap (λ (G : Field). G q.x q.y) (cond-true _ board empty_field own)) ∙ held in
-          let here = lane_pivots-from (intersection (rests_in N free q.rotation) (places_of piece S q.rotation)) q on_board in
-          let parts = and_parts (rests_in N free q.rotation q.x here.y) (places_of piece S q.rotation q.x here.y) here.held in
-          from_place own here.y here.at (places_of-from piece S q.rotation q.x here.y parts.1) parts.0
+          let on_board : lane_pivots q.piece q.rotation (intersection (rests_in N free q.rotation) (states_of_canonical piece S q.rotation)) q.x q.y ≡ true =
+          ap (λ (p : Piece). lane_pivots p q.rotation (intersection (rests_in N free q.rotation) (states_of_canonical piece S q.rotation)) q.x q.y) kind ∙ sym (ap (λ (G : Field). G q.x q.y) (cond-true _ board empty_field own)) ∙ held in
+          let here = lane_pivots-from (intersection (rests_in N free q.rotation) (states_of_canonical piece S q.rotation)) q on_board in
+          let parts = and_parts (rests_in N free q.rotation q.x here.y) (states_of_canonical piece S q.rotation q.x here.y) here.held in
+          from_lane_state own here.y here.at (states_of_canonical-from piece S q.rotation q.x here.y parts.1) parts.0
     ]
       where
-        from_place : has_own_cells piece q.rotation ≡ true → (y : ℕ) → lane q ≡ pos y → IsPlaceOf piece S q.rotation q.x y → rests_in N free q.rotation q.x y ≡ true → IsPlace srs_table F Soft q
-        from_place own y at place rests =
-            let sound = (flood_sound S flood).each place.r in
-            let filled = sound.within.has q.x y place.held in
-            let below = (lies place.r).inside q.x y filled in
-            let s = state_at_place F N piece place.r (free place.r) (is place.r) (lies place.r) q.x y filled in
+        from_lane_state : has_own_cells piece q.rotation ≡ true → (y : ℕ) → lane q ≡ pos y → IsLaneStateOf piece S q.rotation q.x y → rests_in N free q.rotation q.x y ≡ true → IsPlace srs_table F Soft q
+        from_lane_state own y at at_lane rests =
+            let sound = (flood_sound S flood).each at_lane.r in
+            let filled = sound.within.has q.x y at_lane.held in
+            let below = (lies at_lane.r).inside q.x y filled in
+            let s = state_of_lane F N piece at_lane.r (free at_lane.r) (is at_lane.r) (lies at_lane.r) q.x y filled in
             let resting = ((rests_exact own y at below.1).0 rests).0 in
             let pivot = canonical_pivot s.s (free_inside F s.s s.is_free_there) in
             let floors = class_lane s.s.piece s.s.rotation in
-            let turn : q.rotation ≡ canonical_rotation s.s.piece s.s.rotation = sym place.canonical ∙ (λ i. canonical_rotation (sym s.kind i) (sym s.turn i)) in
+            let turn : q.rotation ≡ canonical_rotation s.s.piece s.s.rotation = sym at_lane.canonical ∙ (λ i. canonical_rotation (sym s.kind i) (sym s.turn i)) in
             let lows : lowest (shape q.piece q.rotation) ≡ lowest (shape s.s.piece (canonical_rotation s.s.piece s.s.rotation)) = (λ i. lowest (shape (kind i) (turn i))) ∙ ap (λ (p : Piece). lowest (shape p (canonical_rotation s.s.piece s.s.rotation))) (sym s.kind) in
             let col = s.at.column in
             let row = s.at.at in
@@ -185,7 +185,7 @@ module _ (F : Field) (rows N : ℕ) (clear : IsClearFrom rows F) (over : rows + 
               canonical = IsCanonical-from_test q (ap (λ (p : Piece). has_own_cells p q.rotation) kind ∙ own);
               state = s.s;
               rests = rests_same F q s.s cells resting;
-              holds = sound.keyed s.s q.x y s.kind s.turn s.at place.held;
+              holds = sound.keyed s.s q.x y s.kind s.turn s.at at_lane.held;
               same_cells = same_cells-sym cells;
             })
           where
@@ -206,14 +206,14 @@ module _ (F : Field) (rows N : ℕ) (clear : IsClearFrom rows F) (over : rows + 
         let filled = free_q own n.n is_n below resting.free in
         let rests = (rests_exact own n.n is_n below).1 (resting, filled) in
         let held = held_there found.state found.rests.free found.same_cells found.canonical found.holds n.n is_n below rests own in
-        let in_lanes : LiesWithin (intersection (rests_in N free q.rotation) (places_of piece S q.rotation)) N = record {
+        let in_lanes : LiesWithin (intersection (rests_in N free q.rotation) (states_of_canonical piece S q.rotation)) N = record {
           inside = λ x y both. (resting_within N (free q.rotation) (free q.rotation) (lies q.rotation)).inside x y (and_parts (rests_in N free q.rotation x y) _ both).0;
         } in
         ap (λ (G : Field). G q.x q.y) (cond-true _ board empty_field own)
-        ∙ ap (λ (p : Piece). lane_pivots p q.rotation (intersection (rests_in N free q.rotation) (places_of piece S q.rotation)) q.x q.y) (sym kind)
-        ∙ lane_pivots-to (intersection (rests_in N free q.rotation) (places_of piece S q.rotation)) N q few in_lanes (record { y = n.n; at = is_n; held = and_from _ _ rests held })
+        ∙ ap (λ (p : Piece). lane_pivots p q.rotation (intersection (rests_in N free q.rotation) (states_of_canonical piece S q.rotation)) q.x q.y) (sym kind)
+        ∙ lane_pivots-to (intersection (rests_in N free q.rotation) (states_of_canonical piece S q.rotation)) N q few in_lanes (record { y = n.n; at = is_n; held = and_from _ _ rests held })
       where
-        held_there : (s : Placement) → is_free F s ≡ true → HasSameCells s q → IsCanonical q → IsKeyed srs_table F Soft s → (y : ℕ) → lane q ≡ pos y → y < N → rests_in N free q.rotation q.x y ≡ true → has_own_cells piece q.rotation ≡ true → places_of piece S q.rotation q.x y ≡ true
+        held_there : (s : Placement) → is_free F s ≡ true → HasSameCells s q → IsCanonical q → IsKeyed srs_table F Soft s → (y : ℕ) → lane q ≡ pos y → y < N → rests_in N free q.rotation q.x y ≡ true → has_own_cells piece q.rotation ≡ true → states_of_canonical piece S q.rotation q.x y ≡ true
         held_there s s_free same canonical keyed y at below rests own = elim (flood_ends S flood) [
           | inl all ↦ all.each q.rotation q.x y own rests
           | inr closed ↦
@@ -224,19 +224,19 @@ module _ (F : Field) (rows N : ℕ) (clear : IsClearFrom rows F) (over : rows + 
               let m = free_lane F s.piece s.rotation (pivot_of s) s_free in
               let is_m = m.is in
               let at_s : IsAt s pivot.x m.n = record { column = ap (λ (c : Cell). c.0) pivot.is; at = is_m } in
-              let same_place = place_same s q pivot.x m.n same canonical s_free at_s in
-              let lane_q = same_place.1 in
+              let same_lane_state = lane_state_same s q pivot.x m.n same canonical s_free at_s in
+              let lane_q = same_lane_state.1 in
               let y_same : m.n ≡ y = omega (arith, ints) in
               let below_s : lane s <ℤ pos N = omega (arith, ints) in
               let here = keyed_in F rows N piece (IsInLanes piece S) clear over few closes s kind_s keyed below_s in
               let here_x = here.column in
               let here_y = here.at in
               let col_s = at_s.column in
-              let x_is : here.x ≡ q.x = omega (arith, ints, same_place.0) in
+              let x_is : here.x ≡ q.x = omega (arith, ints, same_lane_state.0) in
               let y_is : here.y ≡ y = omega (arith, ints) in
-              let c_is : canonical_rotation piece s.rotation ≡ q.rotation = ap (λ (p : Piece). canonical_rotation p s.rotation) (sym kind_s) ∙ same_place.2 in
-              let at_place = places_of-has piece S s.rotation here.x here.y here.held in
-              subst (λ (c : Rotation). places_of piece S c q.x y ≡ true) c_is (subst (λ (b : ℕ). places_of piece S (canonical_rotation piece s.rotation) q.x b ≡ true) y_is (subst (λ (a : ℕ). places_of piece S (canonical_rotation piece s.rotation) a here.y ≡ true) x_is at_place))
+              let c_is : canonical_rotation piece s.rotation ≡ q.rotation = ap (λ (p : Piece). canonical_rotation p s.rotation) (sym kind_s) ∙ same_lane_state.2 in
+              let at_lane = states_of_canonical-has piece S s.rotation here.x here.y here.held in
+              subst (λ (c : Rotation). states_of_canonical piece S c q.x y ≡ true) c_is (subst (λ (b : ℕ). states_of_canonical piece S (canonical_rotation piece s.rotation) q.x b ≡ true) y_is (subst (λ (a : ℕ). states_of_canonical piece S (canonical_rotation piece s.rotation) a here.y ≡ true) x_is at_lane))
         ]
 
     pub soft_held : (soft_board piece N free S q.rotation q.x q.y ≡ true) ↔ IsPlace srs_table F Soft q

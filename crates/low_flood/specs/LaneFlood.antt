@@ -15,20 +15,20 @@ use Rattle.low_flood.specs.SkyBoard.{sky_board}
 abbrev pub Lanes : Type 0
 Lanes = Rotation → Field
 
--- the column of a state's place
-abbrev pub place_column : Placement → ℤ
-place_column state = pos state.x +ℤ (canonical_move state.piece state.rotation).0
+-- the column of a lane state
+abbrev pub state_column : Placement → ℤ
+state_column state = pos state.x +ℤ (canonical_move state.piece state.rotation).0
 
--- the state's place is held
+-- the lane state of this state is held
 pub record IsInLanes (piece : Piece) (S : Lanes) (state : Placement) : Type 0 where
   pub kind : state.piece ≡ piece
   pub x : ℕ
-  pub column : place_column state ≡ pos x
+  pub column : state_column state ≡ pos x
   pub y : ℕ
   pub at : lane state ≡ pos y
   pub held : S state.rotation x y ≡ true
 
--- single moves and turns lead to no free place that is missing, and none of the sky is missing
+-- single moves and turns lead to no free lane state that is missing, and none of the sky is missing
 pub record IsLanesClosed (piece : Piece) (N : ℕ) (free S : Lanes) : Type 0 where
   pub beside : (rotation : Rotation) (x y : ℕ) → union (sideways N (S rotation)) (lower N (S rotation)) x y ≡ true
       → free rotation x y ≡ true → S rotation x y ≡ true

@@ -1,4 +1,4 @@
--- The places of lanes as canonical placements.
+-- Lane states as canonical placements.
 use Rattle.std.specs.Prelude.{◌≡◌, ℕ, Bool, nat_lt, pos, neg_ℤ, if◌then◌else◌}
 use Rattle.lane_board.specs.Field.{Field, empty_field, intersection, moved_within, rows_below}
 use Rattle.srs.specs.declared.piece.Piece.{Piece}
@@ -11,7 +11,7 @@ use Rattle.place_sets.specs.States.{States}
 use Rattle.low_flood.specs.LaneMap.{free_lanes, resting_lanes}
 use Rattle.low_flood.specs.SkyBoard.{sky_board}
 
--- the pivots of the places
+-- the pivots of the lane states
 unfoldable pub lane_pivots : Piece → Rotation → Field → Field
 lane_pivots piece rotation S = moved_within (intersection S (rows_below 24)) 24 (pos 0)
     (neg_ℤ (lowest (shape piece rotation)))

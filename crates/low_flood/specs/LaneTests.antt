@@ -8,7 +8,7 @@ abbrev pub not_below_zero : ℤ → ℕ
 not_below_zero (pos n) = n
 not_below_zero _ = 0
 
--- the places from which the move leads to a free place, or above the lanes in a column that fits
+-- the lane states from which the move leads to a free one, or above the lanes in a column that fits
 unfoldable pub opening : ℕ → Field → Field → Cell → Field
 opening N free inside move =
     union (moved_within free N (neg_ℤ move.0) (neg_ℤ move.1))

@@ -1,5 +1,5 @@
--- A quarter turn of a set of places on N lanes, where all inside places above the lanes count as free. The place of a
--- state is the column of its canonical pivot, and its lane: so states with the same cells have one place.
+-- A quarter turn of a set of lane states on N lanes, where all inside ones above the lanes count as free. The lane
+-- state of a state is the column of its canonical pivot, and its lane: so states with the same cells have the same one.
 use Rattle.std.specs.Prelude.{ℕ, ◌&&◌, nat_lt, pos, ◌+ℤ◌, ◌-ℤ◌, if◌then◌else◌, List, [], ◌∷◌, map}
 use Rattle.lane_board.specs.Field.{Field, has_cell, union, difference, moved_within}
 use Rattle.srs.specs.declared.piece.Piece.{Piece}
@@ -10,27 +10,27 @@ use Rattle.srs.specs.Kick.{srs_table, kicks_of}
 use Rattle.moves.specs.Height.{fits_column}
 use Rattle.moves.specs.Lanes.{lowest}
 
--- the free places, and above the lanes all inside places
+-- the free lane states, and above the lanes all inside ones
 unfoldable pub opened : Piece → Rotation → ℕ → Field → Field
 opened piece rotation N free x y = if nat_lt y N then free x y else fits_column piece rotation (pos x)
 
--- what a kick moves a place by
+-- what a kick moves a lane state by
 abbrev pub lane_move : Piece → Rotation → Rotation → Cell → Cell
 lane_move piece from to kick = (
   kick.0 +ℤ ((canonical_move piece to).0 -ℤ (canonical_move piece from).0),
   kick.1 +ℤ (lowest (shape piece to) -ℤ lowest (shape piece from)),
 )
 
--- the places that a move takes to an open place
+-- the lane states that a move takes to an open one
 unfoldable pub hits : Field → Cell → Field → Field
-hits open_places move S x y = S x y && has_cell open_places (pos x +ℤ move.0) (pos y +ℤ move.1)
+hits open_states move S x y = S x y && has_cell open_states (pos x +ℤ move.0) (pos y +ℤ move.1)
 
--- the places that these moves take the places to, one test after the other, and those before
+-- what these moves take the lane states to, one test after the other, and those before
 unfoldable pub lane_turned : Field → ℕ → List Cell → Field → Field → Field
-lane_turned open_places N [] S before = before
-lane_turned open_places N (move ∷ moves) S before =
-    lane_turned open_places N moves (difference S (hits open_places move S))
-    (union before (moved_within (hits open_places move S) N move.0 move.1))
+lane_turned open_states N [] S before = before
+lane_turned open_states N (move ∷ moves) S before =
+    lane_turned open_states N moves (difference S (hits open_states move S))
+    (union before (moved_within (hits open_states move S) N move.0 move.1))
 
 -- the arrivals of a quarter turn
 abbrev pub arrivals : Piece → Rotation → Rotation → ℕ → Field → Field → Field → Field

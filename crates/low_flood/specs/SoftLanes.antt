@@ -15,7 +15,7 @@ use Rattle.place_sets.specs.Shifts.{IsSpread}
 use Rattle.low_flood.specs.SkyBoard.{sky_board}
 use Rattle.place_sets.specs.States.{states_with}
 
--- the free places of each rotation, on the board of the canonical one
+-- the free lane states of each rotation, on the board of the canonical one
 unfoldable pub free_boards : Piece → ℕ → Field → Lanes
 free_boards piece N cells rotation = free_lanes piece (canonical_rotation piece rotation) N cells
 
@@ -23,39 +23,39 @@ free_boards piece N cells rotation = free_lanes piece (canonical_rotation piece 
 unfoldable pub skies : Piece → ℕ → Lanes → Lanes
 skies piece N free rotation = sky_board piece (canonical_rotation piece rotation) N (free rotation)
 
--- the places, and those of a rotation whose canonical one is given
+-- the lane states, and those of a rotation whose canonical one is given
 unfoldable pub with_rotation : Piece → Lanes → Rotation → Rotation → Field → Field
 with_rotation piece S canonical rotation B =
     if rotation_index (canonical_rotation piece rotation) == rotation_index canonical then union B (S rotation) else B
 
--- the places of all rotations whose canonical one is given
-unfoldable pub places_of : Piece → Lanes → Rotation → Field
-places_of piece S canonical =
+-- the lane states of all rotations whose canonical one is given
+unfoldable pub states_of_canonical : Piece → Lanes → Rotation → Field
+states_of_canonical piece S canonical =
     with_rotation piece S canonical Left
     (with_rotation piece S canonical Reverse (with_rotation piece S canonical Right
     (with_rotation piece S canonical Spawn empty_field)))
 
--- all free places of a rotation at which a state rests
+-- all free lane states of a rotation that rest
 unfoldable pub rests_in : ℕ → Lanes → Rotation → Field
 rests_in N free rotation = resting_lanes N (free rotation) (free rotation)
 
--- the canonical placements in a rotation that rest at one of the places
+-- the canonical placements in a rotation that rest and have one of the lane states
 unfoldable pub soft_board : Piece → ℕ → Lanes → Lanes → Rotation → Field
 soft_board piece N free S rotation =
     if has_own_cells piece rotation then lane_pivots piece rotation
-    (intersection (rests_in N free rotation) (places_of piece S rotation))
+    (intersection (rests_in N free rotation) (states_of_canonical piece S rotation))
     else empty_field
 
--- the rests of a canonical rotation that the places lack
+-- the rests of a canonical rotation that the lane states lack
 unfoldable pub lacking : Piece → ℕ → Lanes → Lanes → Rotation → Field
 lacking piece N free S rotation =
-    if has_own_cells piece rotation then difference (rests_in N free rotation) (places_of piece S rotation)
+    if has_own_cells piece rotation then difference (rests_in N free rotation) (states_of_canonical piece S rotation)
     else empty_field
 
--- the places hold all rests
+-- the lane states hold all rests
 pub record HaveAllRests (piece : Piece) (N : ℕ) (free S : Lanes) : Type 0 where
   pub each : (rotation : Rotation) (x y : ℕ) → has_own_cells piece rotation ≡ true → rests_in N free rotation x y ≡ true
-      → places_of piece S rotation x y ≡ true
+      → states_of_canonical piece S rotation x y ≡ true
 
 -- each board is spread
 pub record AreSpread (N : ℕ) (free S T : Lanes) : Type 0 where

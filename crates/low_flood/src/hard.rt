@@ -66,20 +66,20 @@ pub(crate) fn has_own_cells(piece: Piece, rotation: Rotation) -> bool
     }
 }
 
-/// The pivots of places on lanes, below row `M`.
+/// The pivots of lane states, below row `M`.
 #[tactic(auto, using(crate::proofs::LanePlaceLemmas::cut_before))]
 #[inline(always)]
 pub(crate) fn lane_pivots<const N: usize, const M: usize>(
     piece: Piece,
     rotation: Rotation,
-    places: &LaneBoard<N>,
+    states: &LaneBoard<N>,
 ) -> LaneBoard<M>
     requires lane_count { IsTrue (is_lane_count M) }
     requires within { M ≤ 24 }
-    ensures { field_of result ≡ intersection (lane_pivots piece rotation (field_of places.now)) (rows_below M) }
+    ensures { field_of result ≡ intersection (lane_pivots piece rotation (field_of states.now)) (rows_below M) }
 {
     let rows = rows_over_lane(piece, rotation);
-    places.resized::<M>().moved(0, rows)
+    states.resized::<M>().moved(0, rows)
 }
 
 /// How many rows the pivot lies above the lowest cell.

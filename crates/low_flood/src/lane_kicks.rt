@@ -1,4 +1,4 @@
-// How far the tests of a turn move a place on lanes, under the Super Rotation System.
+// How far the tests of a turn move a lane state, under the Super Rotation System.
 ghost use Rattle.std.specs.Prelude.{◌≡◌, ◌≤◌, ◌≤ℤ◌, pos};
 ghost use Rattle.srs.specs.Canonical.{canonical_move};
 ghost use Rattle.srs.specs.Cells.{minus, shape};
@@ -8,12 +8,12 @@ ghost use Rattle.low_flood.specs.LaneTurns.{lane_move};
 
 use srs::{Piece, Rotation};
 
-/// How far test 1 to 5 of a turn moves the place of a state: by columns of its canonical pivot, and by lanes.
+/// How far test 1 to 5 of a turn moves a lane state: by columns of its canonical pivot, and by lanes.
 #[inline(always)]
 pub(crate) fn lane_kick(piece: Piece, from: Rotation, to: Rotation, test: u8) -> (i8, i8)
     requires first { 1 ≤ test }
     requires last { test ≤ 5 }
-    ensures place { result ≡ lane_move piece from to (kick_in srs_table piece from to test) }
+    ensures change { result ≡ lane_move piece from to (kick_in srs_table piece from to test) }
     ensures left { minus 5 ≤ℤ result.0 }
     ensures right { result.0 ≤ℤ pos 5 }
     ensures down { minus 6 ≤ℤ result.1 }

@@ -1,4 +1,4 @@
-// The places of a rotation on lanes: free ones, ones under an open sky, and ones at rest.
+// The lane states of a rotation: free ones, ones under an open sky, and ones at rest.
 ghost use Rattle.std.specs.Prelude.{◌≡◌, ◌≤◌, IsTrue};
 ghost use Rattle.lane_board.specs.Board.{field_of};
 ghost use Rattle.lane_board.specs.Field.{rows_below, empty_field};
@@ -11,7 +11,7 @@ use crate::lane_shapes::lane_cells;
 use lane_board::LaneBoard;
 use srs::{Piece, Rotation};
 
-/// The places in columns in which the piece fits.
+/// The lane states in columns in which the piece fits.
 #[tactic(auto, using(crate::proofs::LaneMaps::fitting_inside))]
 #[inline(always)]
 pub(crate) fn inside_lanes<const N: usize>(piece: Piece, rotation: Rotation) -> LaneBoard<N>
@@ -21,7 +21,7 @@ pub(crate) fn inside_lanes<const N: usize>(piece: Piece, rotation: Rotation) -> 
     fitting_all(piece, rotation)
 }
 
-/// The places in columns from which each offset of the piece leads to a column of the well.
+/// The lane states in columns from which each offset of the piece leads to a column of the well.
 #[tactic(auto, unfolding(crate::specs::LaneMap::fitting_all))]
 #[inline(always)]
 fn fitting_all<const N: usize>(piece: Piece, rotation: Rotation) -> LaneBoard<N>
@@ -36,23 +36,23 @@ fn fitting_all<const N: usize>(piece: Piece, rotation: Rotation) -> LaneBoard<N>
     fitting(&all, d, &third)
 }
 
-/// The places among these in columns from which the offset leads to a column of the well. `all` is the board of all
-/// cells.
+/// The lane states among these in columns from which the offset leads to a column of the well. `all` is the board of
+/// all cells.
 #[tactic(auto, unfolding(crate::specs::LaneMap::fitting))]
 #[inline(always)]
 fn fitting<const N: usize>(
     all: &LaneBoard<N>,
     offset: (i8, i8),
-    places: &LaneBoard<N>,
+    states: &LaneBoard<N>,
 ) -> LaneBoard<N>
     requires all { field_of all.now ≡ rows_below N }
     requires near { IsTrue (is_near_lane offset) }
-    ensures { field_of result ≡ fitting N offset (field_of places.now) }
+    ensures { field_of result ≡ fitting N offset (field_of states.now) }
 {
-    places.and(&all.moved(0 - offset.0, 0))
+    states.and(&all.moved(0 - offset.0, 0))
 }
 
-/// The places at which all cells of the piece are inside the columns and none is filled.
+/// The lane states in which all cells of the piece are inside the columns and none is filled.
 #[tactic(auto, unfolding(crate::specs::LaneMap::free_lanes))]
 #[inline(always)]
 pub(crate) fn free_lanes<const N: usize>(
@@ -65,7 +65,7 @@ pub(crate) fn free_lanes<const N: usize>(
     inside_lanes(piece, rotation).minus(&hit_all(filled, piece, rotation))
 }
 
-/// The places from which some offset of the piece leads to a filled cell.
+/// The lane states from which some offset of the piece leads to a filled cell.
 #[tactic(auto, unfolding(crate::specs::LaneMap::hit_all))]
 #[inline(always)]
 fn hit_all<const N: usize>(filled: &LaneBoard<N>, piece: Piece, rotation: Rotation) -> LaneBoard<N>
@@ -78,21 +78,21 @@ fn hit_all<const N: usize>(filled: &LaneBoard<N>, piece: Piece, rotation: Rotati
     hit(filled, d, &third)
 }
 
-/// The places, plus those from which the offset leads to a filled cell.
+/// The lane states, plus those from which the offset leads to a filled cell.
 #[tactic(auto, unfolding(crate::specs::LaneMap::hit))]
 #[inline(always)]
 fn hit<const N: usize>(
     filled: &LaneBoard<N>,
     offset: (i8, i8),
-    places: &LaneBoard<N>,
+    states: &LaneBoard<N>,
 ) -> LaneBoard<N>
     requires { IsTrue (is_near_lane offset) }
-    ensures { field_of result ≡ hit (field_of filled.now) N offset (field_of places.now) }
+    ensures { field_of result ≡ hit (field_of filled.now) N offset (field_of states.now) }
 {
-    places.or(&filled.moved(0 - offset.0, 0 - offset.1))
+    states.or(&filled.moved(0 - offset.0, 0 - offset.1))
 }
 
-/// Given the free places: the places in columns that fit with no blocked place at or above them.
+/// Given the free lane states: those in columns that fit with no blocked one at or above them.
 #[tactic(auto, unfolding(crate::specs::SkyBoard::sky_board))]
 #[inline(always)]
 pub(crate) fn sky_board<const N: usize>(
@@ -110,24 +110,24 @@ pub(crate) fn sky_board<const N: usize>(
     inside.minus(&eight)
 }
 
-/// The places, plus the same places `rows` rows lower.
+/// The lane states, plus the same ones `rows` rows lower.
 #[tactic(auto, unfolding(crate::specs::SkyBoard::with_lower))]
 #[inline(always)]
-fn with_lower<const N: usize>(places: &LaneBoard<N>, rows: u8) -> LaneBoard<N>
+fn with_lower<const N: usize>(states: &LaneBoard<N>, rows: u8) -> LaneBoard<N>
     requires { rows ≤ 8 }
-    ensures { field_of result ≡ with_lower N rows (field_of places.now) }
+    ensures { field_of result ≡ with_lower N rows (field_of states.now) }
 {
-    places.or(&places.moved(0, 0 - rows as i8))
+    states.or(&states.moved(0, 0 - rows as i8))
 }
 
-/// The places among these with no free place just below.
+/// The lane states among these with no free one just below.
 #[tactic(auto, unfolding(crate::specs::LaneMap::resting_lanes))]
 #[inline(always)]
 pub(crate) fn resting_lanes<const N: usize>(
     free: &LaneBoard<N>,
-    places: &LaneBoard<N>,
+    states: &LaneBoard<N>,
 ) -> LaneBoard<N>
-    ensures { field_of result ≡ resting_lanes N (field_of free.now) (field_of places.now) }
+    ensures { field_of result ≡ resting_lanes N (field_of free.now) (field_of states.now) }
 {
-    places.minus(&free.moved(0, 1))
+    states.minus(&free.moved(0, 1))
 }

@@ -1,4 +1,4 @@
-// A quarter turn of places on lanes. `KIND`, `TO` and `CLOCKWISE` number the compiled copies, as in `soft`.
+// A quarter turn of lane states. `KIND`, `TO` and `CLOCKWISE` number the compiled copies, as in `soft`.
 ghost use Rattle.std.specs.Prelude.{◌≡◌, ◌-◌, ◌≤ℤ◌, pos, IsTrue};
 ghost use Rattle.lane_board.specs.Board.{field_of};
 ghost use Rattle.lane_board.specs.Field.{empty_field, difference, intersection, union, moved_within};
@@ -13,21 +13,21 @@ use crate::lane_map::inside_lanes;
 use lane_board::LaneBoard;
 use srs::{Piece, Rotation};
 
-/// The places that a quarter turn leads to, each by the first test that succeeds. `free` are the free places of the new
-/// rotation.
+/// The lane states that a quarter turn leads to, each by the first test that succeeds. `free` are the free ones of the
+/// new rotation.
 #[inline(always)]
 pub(crate) fn arrivals<const KIND: u8, const TO: u8, const CLOCKWISE: bool, const N: usize>(
     piece: Piece,
     from: Rotation,
     to: Rotation,
     free: &LaneBoard<N>,
-    places: &LaneBoard<N>,
+    states: &LaneBoard<N>,
 ) -> LaneBoard<N>
-    ensures { field_of result ≡ arrivals piece from to N (field_of free.now) (field_of places.now) empty_field }
+    ensures { field_of result ≡ arrivals piece from to N (field_of free.now) (field_of states.now) empty_field }
 {
     let inside = inside_lanes(piece, canonical_of(piece, to));
     let start = Turning {
-        left: *places,
+        left: *states,
         reached: LaneBoard::empty(),
     };
     let one = tested(free, &inside, lane_kick(piece, from, to, 1), &start);
@@ -37,14 +37,14 @@ pub(crate) fn arrivals<const KIND: u8, const TO: u8, const CLOCKWISE: bool, cons
     tested(free, &inside, lane_kick(piece, from, to, 5), &four).reached
 }
 
-/// The places that a test leaves to the next test, and the places that are reached.
+/// The lane states that a test leaves to the next test, and those that are reached.
 #[derive(Clone, Copy)]
 struct Turning<const N: usize> {
     left: LaneBoard<N>,
     reached: LaneBoard<N>,
 }
 
-/// One test: each place from which the move leads to an open place goes there.
+/// One test: each lane state from which the move leads to an open one goes there.
 #[inline(always)]
 fn tested<const N: usize>(
     free: &LaneBoard<N>,
@@ -70,7 +70,7 @@ fn tested<const N: usize>(
     }
 }
 
-/// The places from which the move leads to a free place, or to a place above the lanes in a column that fits.
+/// The lane states from which the move leads to a free one, or to one above the lanes in a column that fits.
 #[tactic(auto, unfolding(crate::specs::LaneTests::opening))]
 #[inline(always)]
 fn opening<const N: usize>(
@@ -89,7 +89,7 @@ fn opening<const N: usize>(
     free.moved(0 - change.0, 0 - change.1).or(&above)
 }
 
-/// How many lanes stay on the board when places move by this many rows.
+/// How many lanes stay on the board when lane states move by this many rows.
 #[inline(always)]
 #[tactic(auto, using(crate::proofs::LaneTests::staying_all, crate::proofs::LaneTests::staying_some))]
 fn lanes_staying<const N: usize>(rows: i8) -> u8

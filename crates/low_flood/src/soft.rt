@@ -9,7 +9,7 @@ ghost use Rattle.moves.specs.declared.key.DropMode.{DropMode};
 ghost use Rattle.moves.specs.Sky.{IsClearFrom};
 ghost use Rattle.moves.specs.Place.{IsPlace};
 ghost use Rattle.place_sets.specs.States.{HasExactly, IsUnder, states_of};
-ghost use Rattle.low_flood.specs.SoftLanes.{free_boards, skies, with_rotation, places_of, rests_in, lacking};
+ghost use Rattle.low_flood.specs.SoftLanes.{free_boards, skies, with_rotation, states_of_canonical, rests_in, lacking};
 ghost use Rattle.low_flood.specs.SoftLanes.{soft_board, HaveAllRests, AreSpread, IsTurnedInto, IsRound, IsSoftFlood};
 
 use crate::hard::{has_own_cells, lane_pivots};
@@ -42,7 +42,7 @@ pub(crate) fn soft_places<const KIND: u8, const N: usize, const M: usize>(
     }
 }
 
-/// The free places of each rotation, on the board of its canonical rotation.
+/// The free lane states of each rotation, on the board of its canonical rotation.
 fn free_boards<const KIND: u8, const N: usize>(filled: &LaneBoard<N>, piece: Piece) -> Pivots<N>
     ensures { states_of result ≡ free_boards piece N (field_of filled.now) }
 {
@@ -54,8 +54,8 @@ fn free_boards<const KIND: u8, const N: usize>(filled: &LaneBoard<N>, piece: Pie
     }
 }
 
-/// The places that single moves and turns lead to from the sky, or enough of them to have every rest. It is inlined, so that
-/// its boards need no memory between it and what it is made for.
+/// The lane states that single moves and turns lead to from the sky, or enough of them to have every rest. It is
+/// inlined, so that its boards need no memory between it and what it is made for.
 #[inline(always)]
 fn flood<const KIND: u8, const N: usize>(piece: Piece, free: &Pivots<N>) -> Pivots<N>
     ensures { IsSoftFlood piece N (states_of free.now) (states_of result) }
@@ -77,7 +77,7 @@ fn flood<const KIND: u8, const N: usize>(piece: Piece, free: &Pivots<N>) -> Pivo
     }
 }
 
-/// The places under the open sky, for each rotation.
+/// The lane states under the open sky, for each rotation.
 fn skies<const KIND: u8, const N: usize>(piece: Piece, free: &Pivots<N>) -> Pivots<N>
     ensures { states_of result ≡ skies piece N (states_of free.now) }
 {
@@ -89,16 +89,16 @@ fn skies<const KIND: u8, const N: usize>(piece: Piece, free: &Pivots<N>) -> Pivo
     }
 }
 
-/// The places of each rotation, plus all that single moves lead to from them.
+/// The lane states of each rotation, plus all that single moves lead to from them.
 #[tactic(auto, using(crate::proofs::SoftLemmas::spread_each), unfolding(place_sets::specs::States::states_of))]
-fn spread_all<const KIND: u8, const N: usize>(free: &Pivots<N>, places: &Pivots<N>) -> Pivots<N>
-    ensures { AreSpread N (states_of free.now) (states_of places.now) (states_of result) }
+fn spread_all<const KIND: u8, const N: usize>(free: &Pivots<N>, states: &Pivots<N>) -> Pivots<N>
+    ensures { AreSpread N (states_of free.now) (states_of states.now) (states_of result) }
 {
     Pivots {
-        spawn: spread(&free.spawn, Shifts::All, &places.spawn),
-        right: spread(&free.right, Shifts::All, &places.right),
-        reverse: spread(&free.reverse, Shifts::All, &places.reverse),
-        left: spread(&free.left, Shifts::All, &places.left),
+        spawn: spread(&free.spawn, Shifts::All, &states.spawn),
+        right: spread(&free.right, Shifts::All, &states.right),
+        reverse: spread(&free.reverse, Shifts::All, &states.reverse),
+        left: spread(&free.left, Shifts::All, &states.left),
     }
 }
 
@@ -106,75 +106,75 @@ fn spread_all<const KIND: u8, const N: usize>(free: &Pivots<N>, places: &Pivots<
 fn round<const KIND: u8, const N: usize>(
     piece: Piece,
     free: &Pivots<N>,
-    places: &Pivots<N>,
+    states: &Pivots<N>,
 ) -> Pivots<N>
-    ensures { IsRound piece N (states_of free.now) (states_of places.now) (states_of result) }
+    ensures { IsRound piece N (states_of free.now) (states_of states.now) (states_of result) }
 {
-    let one = turned_into::<KIND, 0, N>(piece, Rotation::Spawn, free, places);
+    let one = turned_into::<KIND, 0, N>(piece, Rotation::Spawn, free, states);
     let two = turned_into::<KIND, 1, N>(piece, Rotation::Right, free, &one);
     let three = turned_into::<KIND, 2, N>(piece, Rotation::Reverse, free, &two);
     turned_into::<KIND, 3, N>(piece, Rotation::Left, free, &three)
 }
 
-/// The places, plus those that both turns into a rotation lead to, plus all that single moves lead to from there.
+/// The lane states, plus those that both turns into a rotation lead to, plus all that single moves lead to from there.
 #[inline(always)]
 fn turned_into<const KIND: u8, const TO: u8, const N: usize>(
     piece: Piece,
     to: Rotation,
     free: &Pivots<N>,
-    places: &Pivots<N>,
+    states: &Pivots<N>,
 ) -> Pivots<N>
-    ensures { IsTurnedInto piece N (states_of free.now) to (states_of places.now) (states_of result) }
+    ensures { IsTurnedInto piece N (states_of free.now) to (states_of states.now) (states_of result) }
 {
     let there = free.board(to);
     let before = to.anticlockwise();
     let after = to.clockwise();
-    let clockwise = arrivals::<KIND, TO, true, N>(piece, before, to, there, places.board(before));
+    let clockwise = arrivals::<KIND, TO, true, N>(piece, before, to, there, states.board(before));
     let anticlockwise = arrivals::<KIND, TO, false, N>(
         piece,
         after,
         to,
         there,
-        places.board(after),
+        states.board(after),
     );
-    let wide = places.board(to).or(&clockwise.or(&anticlockwise));
-    places.with(to, &spread(there, Shifts::All, &wide))
+    let wide = states.board(to).or(&clockwise.or(&anticlockwise));
+    states.with(to, &spread(there, Shifts::All, &wide))
 }
 
-/// Whether the places include every resting state.
+/// Whether the lane states include every resting one.
 #[tactic(auto, using(crate::proofs::SoftLemmas::all_rests_by))]
 fn has_all_rests<const KIND: u8, const N: usize>(
     piece: Piece,
     free: &Pivots<N>,
-    places: &Pivots<N>,
+    states: &Pivots<N>,
 ) -> bool
-    ensures { IsTrue result → HaveAllRests piece N (states_of free.now) (states_of places.now) }
+    ensures { IsTrue result → HaveAllRests piece N (states_of free.now) (states_of states.now) }
 {
-    lacks(piece, Rotation::Spawn, free, places)
-        .or(&lacks(piece, Rotation::Right, free, places))
-        .or(&lacks(piece, Rotation::Reverse, free, places))
-        .or(&lacks(piece, Rotation::Left, free, places))
+    lacks(piece, Rotation::Spawn, free, states)
+        .or(&lacks(piece, Rotation::Right, free, states))
+        .or(&lacks(piece, Rotation::Reverse, free, states))
+        .or(&lacks(piece, Rotation::Left, free, states))
         .is_empty()
 }
 
-/// The rests of a canonical rotation that are not among the places.
+/// The rests of a canonical rotation that are not among the lane states.
 #[tactic(auto, unfolding(crate::specs::SoftLanes::lacking))]
 #[inline(always)]
 fn lacks<const N: usize>(
     piece: Piece,
     rotation: Rotation,
     free: &Pivots<N>,
-    places: &Pivots<N>,
+    states: &Pivots<N>,
 ) -> LaneBoard<N>
-    ensures { field_of result ≡ lacking piece N (states_of free.now) (states_of places.now) rotation }
+    ensures { field_of result ≡ lacking piece N (states_of free.now) (states_of states.now) rotation }
 {
     if !has_own_cells(piece, rotation) {
         return LaneBoard::empty();
     }
-    rests_in(free, rotation).minus(&places_of(piece, places, rotation))
+    rests_in(free, rotation).minus(&states_of_canonical(piece, states, rotation))
 }
 
-/// All free places of a rotation at which a state rests.
+/// All free lane states of a rotation that rest.
 #[tactic(auto, unfolding(crate::specs::SoftLanes::rests_in))]
 #[inline(always)]
 fn rests_in<const N: usize>(free: &Pivots<N>, rotation: Rotation) -> LaneBoard<N>
@@ -184,54 +184,58 @@ fn rests_in<const N: usize>(free: &Pivots<N>, rotation: Rotation) -> LaneBoard<N
     resting_lanes(board, board)
 }
 
-/// The places of all rotations that have the given canonical rotation.
-#[tactic(auto, unfolding(crate::specs::SoftLanes::places_of))]
+/// The lane states of all rotations that have the given canonical rotation.
+#[tactic(auto, unfolding(crate::specs::SoftLanes::states_of_canonical))]
 #[inline(always)]
-fn places_of<const N: usize>(piece: Piece, places: &Pivots<N>, canonical: Rotation) -> LaneBoard<N>
-    ensures { field_of result ≡ places_of piece (states_of places.now) canonical }
+fn states_of_canonical<const N: usize>(
+    piece: Piece,
+    states: &Pivots<N>,
+    canonical: Rotation,
+) -> LaneBoard<N>
+    ensures { field_of result ≡ states_of_canonical piece (states_of states.now) canonical }
 {
     let none = LaneBoard::empty();
-    let one = with_rotation(piece, places, canonical, Rotation::Spawn, &none);
-    let two = with_rotation(piece, places, canonical, Rotation::Right, &one);
-    let three = with_rotation(piece, places, canonical, Rotation::Reverse, &two);
-    with_rotation(piece, places, canonical, Rotation::Left, &three)
+    let one = with_rotation(piece, states, canonical, Rotation::Spawn, &none);
+    let two = with_rotation(piece, states, canonical, Rotation::Right, &one);
+    let three = with_rotation(piece, states, canonical, Rotation::Reverse, &two);
+    with_rotation(piece, states, canonical, Rotation::Left, &three)
 }
 
-/// The board, plus the places of a rotation if its canonical rotation is the given one.
+/// The board, plus the lane states of a rotation if its canonical rotation is the given one.
 #[tactic(auto, unfolding(crate::specs::SoftLanes::with_rotation))]
 #[inline(always)]
 fn with_rotation<const N: usize>(
     piece: Piece,
-    places: &Pivots<N>,
+    states: &Pivots<N>,
     canonical: Rotation,
     rotation: Rotation,
     board: &LaneBoard<N>,
 ) -> LaneBoard<N>
-    ensures { field_of result ≡ with_rotation piece (states_of places.now) canonical rotation (field_of board.now) }
+    ensures { field_of result ≡ with_rotation piece (states_of states.now) canonical rotation (field_of board.now) }
 {
     if canonical_of(piece, rotation).index() != canonical.index() {
         return *board;
     }
-    board.or(places.board(rotation))
+    board.or(states.board(rotation))
 }
 
-/// The canonical placements in a rotation that rest at one of the places, with the pivot below row `M`.
+/// The canonical placements in a rotation that rest and have one of the lane states, with the pivot below row `M`.
 #[tactic(auto, unfolding(crate::specs::SoftLanes::soft_board), using(crate::proofs::LanePlaceLemmas::cut_of_none))]
 #[inline(always)]
 fn soft_board<const N: usize, const M: usize>(
     piece: Piece,
     rotation: Rotation,
     free: &Pivots<N>,
-    places: &Pivots<N>,
+    states: &Pivots<N>,
 ) -> LaneBoard<M>
     requires lane_count { IsTrue (is_lane_count M) }
     requires within { M ≤ 24 }
     ensures { field_of result ≡ intersection
-        (soft_board piece N (states_of free.now) (states_of places.now) rotation) (rows_below M) }
+        (soft_board piece N (states_of free.now) (states_of states.now) rotation) (rows_below M) }
 {
     if !has_own_cells(piece, rotation) {
         return LaneBoard::empty();
     }
-    let rests = rests_in(free, rotation).and(&places_of(piece, places, rotation));
+    let rests = rests_in(free, rotation).and(&states_of_canonical(piece, states, rotation));
     lane_pivots(piece, rotation, &rests)
 }

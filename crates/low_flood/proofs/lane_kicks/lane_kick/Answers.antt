@@ -1,4 +1,4 @@
--- The difference of two offsets, and of two places.
+-- The difference of two offsets, and of two lane states.
 use Rattle.std.proofs.Common.{◌≡◌, ap, arith}
 use Rattle.std.proofs.lemmas.Int.{ints}
 use Rattle.srs.specs.Cells.{Cell}
@@ -6,8 +6,8 @@ use Rattle.srs.specs.Kick.{srs_table, offset_in}
 use Rattle.place_sets.proofs.CallerLemmas.{same_cell}
 use Rattle.low_flood.proofs.lane_kicks.lane_kick.Goals as goal
 
-pub returns-clause-place : goal.returns-clause-place
-returns-clause-place c =
+pub returns-clause-change : goal.returns-clause-change
+returns-clause-change c =
     let a = offset_in srs_table c.args.piece c.args.from c.args.test in
     let b = offset_in srs_table c.args.piece c.args.to c.args.test in
     let a_x : c.srs_offset-left_x.result.0 ≡ a.0 = ap (λ (c : Cell). c.0) c.srs_offset-left_x.ensures.offset in

@@ -1,4 +1,4 @@
--- Rounds from the spread skies led here, and each time fewer places are missing.
+-- Rounds from the spread skies led here, and each time fewer lane states are missing.
 use Rattle.place_sets.specs.States.{states_of}
 use Rattle.place_sets.proofs.CallerLemmas.{missing}
 use Rattle.low_flood.proofs.SoftLemmas.{IsSoFar}
