@@ -55,23 +55,23 @@ states_permit-to elements hold start states played pieces is =
 pub states_permit-next : (elements : List Element) (hold : Hold) (start : Option Piece) (states next : List ℕ) (played : ℕ) (piece : Piece)
     → ((held : Option Piece) → IsNextFamily elements hold start states played piece held (family_at next held))
     → (pieces : List Piece) → states_permit elements hold start states played (piece ∷ pieces) ≡ states_permit elements hold start next (played + 1) pieces
-states_permit-next elements hold start states next played piece steps pieces =
+states_permit-next elements hold start states next played piece families pieces =
     one_truth _ _
     (λ before. let is = states_permit-from elements hold start states played (piece ∷ pieces) before in
     states_permit-to elements hold start next (played + 1) pieces (record {
       held = is.permitted.1;
       queue = is.permitted.0;
-      rest = (steps is.permitted.1).goes is.permitted.0 (record { held_before = is.held; queue_before = is.queue; way = is.permitted.2; rest = is.rest });
+      rest = (families is.permitted.1).goes is.permitted.0 (record { held_before = is.held; queue_before = is.queue; way = is.permitted.2; rest = is.rest });
       permitted = is.permitted.3;
     }))
     (λ after. let is = states_permit-from elements hold start next (played + 1) pieces after in
-    let came = (steps is.held).came is.queue is.rest in
+    let came = (families is.held).came is.queue is.rest in
     search (rules, states_permit-to))
 
 pub leads-next : (elements : List Element) (hold : Hold) (start : Option Piece) (states next : List ℕ) (played : ℕ) (piece : Piece)
     → ((held : Option Piece) → IsNextFamily elements hold start states played piece held (family_at next held))
     → LeadsTo elements hold start states played piece next
-leads-next elements hold start states next played piece steps = search (rules, states_permit-next)
+leads-next elements hold start states next played piece families = search (rules, states_permit-next)
 
 pub follows-next : (elements : List Element) (hold : Hold) (start : Option Piece) (states next : List ℕ) (played : List Piece) (piece : Piece)
     → AreStatesAfter elements hold start states played → LeadsTo elements hold start states (length played) piece next

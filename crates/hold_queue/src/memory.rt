@@ -11,7 +11,7 @@ use srs::Piece;
 use std::alloc::Global;
 
 /// How many steps are remembered.
-const STEPS: usize = 1024;
+const REMEMBERED: usize = 1024;
 
 /// The states after one more piece, and which pieces may come then.
 #[derive(Clone, Copy)]
@@ -67,14 +67,14 @@ impl Following {
 /// Remembers what comes after states. Later steps evict earlier ones.
 #[derive(Drop)]
 pub struct QueueMemory {
-    steps: FactTable<Option<Following>>,
+    remembered: FactTable<Option<Following>>,
 }
 
 impl QueueMemory {
     /// An empty memory. It keeps nothing if there is not enough memory.
     pub fn within_memory(alloc: Global) -> QueueMemory {
         QueueMemory {
-            steps: FactTable::within_memory(alloc, STEPS),
+            remembered: FactTable::within_memory(alloc, REMEMBERED),
         }
     }
 
@@ -85,7 +85,7 @@ impl QueueMemory {
         ensures piece { IfSome result (λ step. step.now.piece ≡ piece) }
         ensures due { IfSome result (λ step. step.now.after.due.holding ≡ due) }
     {
-        let step = self.steps.entry(step_hash(before, piece))?.as_ref()?;
+        let step = self.remembered.entry(step_hash(before, piece))?.as_ref()?;
         if step.is_about(before, piece, due) {
             return Some(step);
         }
@@ -94,7 +94,7 @@ impl QueueMemory {
 
     /// Remembers a step.
     pub fn keep(&mut self, step: &Following) {
-        self.steps
+        self.remembered
             .put(step_hash(&step.before, step.piece), Some(*step));
     }
 }
