@@ -10,7 +10,7 @@ use Rattle.hold_queue.specs.declared.hand.Hand.{Hand}
 use Rattle.hold_queue.specs.declared.hand.Taken.{Taken}
 use Rattle.hold_queue.specs.declared.hold.Hold.{Hold}
 use Rattle.hold_queue.specs.declared.hold.Hold.TheVariants.{Allowed, Avoided}
-use Rattle.hold_queue.specs.AtHand.{at_hand, Take}
+use Rattle.hold_queue.specs.AtHand.{at_hand, playable, Take}
 use Rattle.hold_queue.specs.Hand.{AreAllTakes, HasSameFront, TakesFirst, IsFirstAtHand, TakesSecond, IsSecondAtHand, IsTakenBy, Leaves, pieces_at}
 use Rattle.hold_queue.proofs.AtHandLemmas.{take-cases, take-nothing, take-of_first, take-of_second}
 
@@ -41,13 +41,11 @@ next-piece (suc drawn) (x ∷ queue) (y ∷ other) piece same there = search (ru
 
 -- ---- a hand
 
-pub start-avoided : (queue : List Piece) (held : Option Piece) → pieces_at queue (record { held = None; drawn = 0 }) ≡ at_hand Avoided held queue
+pub start-playable : (hold : Hold) (held : Option Piece) (queue : List Piece) → pieces_at queue (record { held = playable hold held; drawn = 0 }) ≡ at_hand hold held queue
 unfolding pieces_at
-start-avoided queue held = refl
-
-pub start-allowed : (queue : List Piece) (held : Option Piece) → pieces_at queue (record { held = held; drawn = 0 }) ≡ at_hand Allowed held queue
-unfolding pieces_at
-start-allowed queue held = search rules
+start-playable Avoided held queue = refl
+start-playable Allowed None queue = refl
+start-playable Allowed (Some piece) queue = refl
 
 pub count-none : (queue : List Piece) (hand : Hand) → hand.held ≡ None → length (pieces_at queue hand) ≡ length queue - hand.drawn
 unfolding pieces_at

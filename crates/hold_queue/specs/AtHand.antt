@@ -5,6 +5,11 @@ use Rattle.srs.specs.declared.piece.Piece.{Piece}
 use Rattle.hold_queue.specs.declared.hold.Hold.{Hold}
 use Rattle.hold_queue.specs.declared.hold.Hold.TheVariants.{Allowed, Avoided}
 
+-- the piece that is held at the start, if it may be played
+abbrev pub playable : Hold → Option Piece → Option Piece
+playable Avoided held = None
+playable Allowed held = held
+
 -- a held piece stands in front of the queue; where hold is avoided it is never played
 abbrev pub at_hand : Hold → Option Piece → List Piece → List Piece
 at_hand Avoided held queue = queue

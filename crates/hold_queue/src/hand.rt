@@ -28,11 +28,10 @@ impl Hand {
         ensures at { (queue : List Piece) → pieces_at queue result ≡ at_hand hold held queue }
         ensures none_drawn { result.drawn ≡ 0 }
     {
-        let held = match hold {
-            Hold::Allowed => held,
-            Hold::Avoided => None,
-        };
-        Hand { held, drawn: 0 }
+        Hand {
+            held: hold.playable(held),
+            drawn: 0,
+        }
     }
 
     /// How many pieces are at hand.

@@ -1,4 +1,5 @@
 // Whether a piece may be held.
+use srs::Piece;
 
 /// Whether a piece may be held.
 #[derive(Clone, Copy, Debug, PartialEq, Eq)]
@@ -7,4 +8,19 @@ pub enum Hold {
     Allowed,
     /// No piece is held. A piece that is held at the start is never played.
     Avoided,
+}
+
+impl Hold {
+    ghost use Rattle.std.specs.Prelude.{◌≡◌};
+    ghost use Rattle.hold_queue.specs.AtHand.{playable};
+
+    /// The piece that is held at the start, if it may be played.
+    pub fn playable(self, held: Option<Piece>) -> Option<Piece>
+        ensures { result ≡ playable self held }
+    {
+        match self {
+            Hold::Allowed => held,
+            Hold::Avoided => None,
+        }
+    }
 }

@@ -26,10 +26,7 @@ pub fn from_hold(hold: Hold, held: Option<Piece>, piece: Piece) -> u8
     ensures value { result ≡ Supply.from_hold hold held piece }
     ensures small { result ≤ 1 }
 {
-    let Hold::Allowed = hold else {
-        return 0;
-    };
-    match held {
+    match hold.playable(held) {
         Some(held) => u8::from(held.code() == piece.code()),
         None => 0,
     }

@@ -1,11 +1,12 @@
 -- A held piece stands in front where hold is allowed.
-use Rattle.std.proofs.Common.{◌∙◌, sym, ap}
-use Rattle.hold_queue.specs.AtHand.{at_hand}
-use Rattle.hold_queue.proofs.HandLemmas.{start-allowed, start-avoided}
+use Rattle.std.proofs.Common.{◌∙◌, ap}
+use Rattle.std.specs.Prelude.{Option}
+use Rattle.srs.specs.declared.piece.Piece.{Piece}
+use Rattle.hold_queue.specs.Hand.{pieces_at}
+use Rattle.hold_queue.proofs.HandLemmas.{start-playable}
 use Rattle.hold_queue.proofs.hand.Hand.start.Goals as goal
 
-pub returns-in-Allowed-clause-at : goal.returns-in-Allowed-clause-at
-returns-in-Allowed-clause-at c queue = start-allowed queue c.args.held ∙ ap (λ hold. at_hand hold c.args.held queue) (sym c.in-Allowed.is)
-
-pub returns-in-Avoided-clause-at : goal.returns-in-Avoided-clause-at
-returns-in-Avoided-clause-at c queue = start-avoided queue c.args.held ∙ ap (λ hold. at_hand hold c.args.held queue) (sym c.in-Avoided.is)
+pub returns-clause-at : goal.returns-clause-at
+returns-clause-at c queue =
+    ap (λ (held : Option Piece). pieces_at queue (record { held = held; drawn = 0 })) c.playable.ensures
+    ∙ start-playable c.args.hold c.args.held queue
