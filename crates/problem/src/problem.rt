@@ -86,9 +86,9 @@ impl Problem {
     pub fn pieces_at_hand(&self) -> u8
         ensures { result ≡ pieces_at_hand self.now }
     {
-        match (self.hold, self.held) {
-            (Hold::Allowed, Some(_)) => self.pattern.len() + 1,
-            _ => self.pattern.len(),
+        match self.hold.playable(self.held) {
+            Some(_) => self.pattern.len() + 1,
+            None => self.pattern.len(),
         }
     }
 
