@@ -5,7 +5,7 @@ use Rattle.pc_outside.specs.declared.answers.Refused.{Refused}
 use Rattle.pc_outside.specs.declared.answers.Refused.TheVariants as refused
 use Rattle.fumen_digits.specs.declared.fault.FumenFault.{FumenFault}
 use Rattle.fumen_digits.specs.Reading.{◌>>=◌}
-use Rattle.fumen_digits.specs.Answers.{IsRefusal}
+use Rattle.fumen_digits.specs.ReadResults.{IsRefusal}
 use Rattle.fumen_digits.proofs.CallerLemmas.{ok_bind, err_bind}
 use Rattle.fumen_comment.specs.declared.part.CommentFault.{CommentFault}
 use Rattle.fumen_comment.specs.Part.{unpacked, group_count}

@@ -3,7 +3,7 @@ ghost use Rattle.std.specs.Prelude.{◌≡◌, ◌≢◌, ℕ, ◌+◌, ◌^◌,
 ghost use Rattle.std.specs.List.{list_all};
 ghost use Rattle.fumen_digits.specs.Number.{digits};
 ghost use Rattle.fumen_digits.specs.Reading.{number_at};
-ghost use Rattle.fumen_digits.specs.Answers.{Gives};
+ghost use Rattle.fumen_digits.specs.ReadResults.{Gives};
 ghost use Rattle.pc_outside.specs.declared.answers.Refused.{Refused};
 ghost use Rattle.fumen_comment.specs.declared.part.CommentFault.{CommentFault};
 ghost use Rattle.fumen_comment.specs.Escape.{IsPrintable};

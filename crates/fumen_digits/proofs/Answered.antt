@@ -6,7 +6,7 @@ use Rattle.pc_outside.specs.declared.answers.Refused.TheVariants as refused
 use Rattle.fumen_digits.specs.declared.number.DigitFault.{DigitFault}
 use Rattle.fumen_digits.specs.declared.fault.FumenFault.{FumenFault}
 use Rattle.fumen_digits.specs.Fault.{digit_fault}
-use Rattle.fumen_digits.specs.Answers.{Reads, Gives}
+use Rattle.fumen_digits.specs.ReadResults.{Reads, Gives}
 
 pub reads_ok : {X Y E : Type 0} (view : X → Y) (fault : E → FumenFault) (r : Result X E) (read : Result Y FumenFault) (x : X) → Reads view fault r read → r ≡ Ok x → read ≡ Ok (view x)
 reads_ok {X = X} {E = E} view fault r read x reads e = let P : Result X E → Type 0 = λ q. Reads view fault q read in subst P e reads

@@ -4,7 +4,7 @@ ghost use Rattle.fumen_digits.specs.declared.number.DigitFault.{DigitFault};
 ghost use Rattle.fumen_digits.specs.Number.{digits, NumberStands};
 ghost use Rattle.fumen_digits.specs.Reading.{value_at, number_at};
 ghost use Rattle.fumen_digits.specs.Fault.{digit_fault, IsNumberFault};
-ghost use Rattle.fumen_digits.specs.Answers.{Gives, Reads};
+ghost use Rattle.fumen_digits.specs.ReadResults.{Gives, Reads};
 ghost use Rattle.pc_outside.specs.declared.answers.Refused.{Refused};
 
 use crate::digit::{digit_of, digit_value};

@@ -4,7 +4,7 @@ ghost use Rattle.std.specs.List.{list_all};
 ghost use Rattle.fumen_digits.specs.Dialect.{page_cell_count};
 ghost use Rattle.fumen_digits.specs.declared.dialect.Dialect.{Dialect};
 ghost use Rattle.fumen_digits.specs.Reading.{number_at};
-ghost use Rattle.fumen_digits.specs.Answers.{Reads};
+ghost use Rattle.fumen_digits.specs.ReadResults.{Reads};
 ghost use Rattle.fumen_pages.specs.declared.record.CellsRead.{CellsRead};
 ghost use Rattle.fumen_pages.specs.declared.record.CellsFault.{CellsFault};
 ghost use Rattle.fumen_pages.specs.Cells.{AreCells, IsColour};

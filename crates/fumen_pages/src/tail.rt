@@ -1,7 +1,7 @@
 // What follows the cells of a page: its action and its comment.
 ghost use Rattle.std.specs.Prelude.{◌≡◌, ◌≢◌, ℕ, ◌+◌, ◌≤◌, length, IfOk, Ok, Err, IsTrue};
 ghost use Rattle.std.specs.Option.{ForSome};
-ghost use Rattle.fumen_digits.specs.Answers.{Gives};
+ghost use Rattle.fumen_digits.specs.ReadResults.{Gives};
 ghost use Rattle.fumen_comment.specs.Faults.{HasGroup};
 ghost use Rattle.pc_outside.specs.declared.answers.Refused.{Refused};
 ghost use Rattle.fumen_pages.specs.declared.page.Page.{Page};

@@ -6,7 +6,7 @@ use Rattle.fumen_digits.specs.declared.dialect.Dialect.{Dialect}
 use Rattle.fumen_digits.specs.declared.fault.FumenFault.{FumenFault}
 use Rattle.fumen_digits.specs.declared.fault.FumenFault.TheVariants.{TooManyPages}
 use Rattle.fumen_digits.specs.Reading.{◌>>=◌}
-use Rattle.fumen_digits.specs.Answers.{IsRefusal}
+use Rattle.fumen_digits.specs.ReadResults.{IsRefusal}
 use Rattle.fumen_digits.proofs.CallerLemmas.{ok_bind, err_bind}
 use Rattle.fumen_pages.specs.declared.page.Page.{Page}
 use Rattle.fumen_pages.specs.declared.record.CellsRead.{CellsRead}

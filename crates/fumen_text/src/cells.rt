@@ -1,6 +1,6 @@
 // The cells of a page: the promised ones or those of a record, and the digit behind the unchanged run.
 ghost use Rattle.std.specs.Prelude.{◌≡◌, ◌+◌, ◌≤◌, length, IfOk};
-ghost use Rattle.fumen_digits.specs.Answers.{Gives};
+ghost use Rattle.fumen_digits.specs.ReadResults.{Gives};
 ghost use Rattle.fumen_pages.specs.Cells.{AreCells};
 ghost use Rattle.fumen_pages.specs.Reading.{record_at};
 ghost use Rattle.fumen_text.specs.Reading.{page_cells_at, promise_at};

@@ -1,6 +1,6 @@
 // Pages one after the other, while digits are left or pages are promised.
 ghost use Rattle.std.specs.Prelude.{◌≡◌, ◌+◌, ◌≤◌, length, IfOk};
-ghost use Rattle.fumen_digits.specs.Answers.{Gives};
+ghost use Rattle.fumen_digits.specs.ReadResults.{Gives};
 ghost use Rattle.fumen_pages.specs.Cells.{AreCells};
 ghost use Rattle.fumen_text.specs.Reading.{is_due, pages_of_digits, next_page_at};
 

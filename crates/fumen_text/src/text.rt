@@ -2,7 +2,7 @@
 ghost use Rattle.std.specs.Prelude.{◌≡◌, ◌≢◌, List, None, IfOk, Ok, Err};
 ghost use Rattle.fumen_digits.specs.declared.dialect.Dialect.{Dialect};
 ghost use Rattle.fumen_digits.specs.declared.fault.FumenFault.{FumenFault};
-ghost use Rattle.fumen_digits.specs.Answers.{Gives};
+ghost use Rattle.fumen_digits.specs.ReadResults.{Gives};
 ghost use Rattle.fumen_digits.specs.Framing.{digits_in};
 ghost use Rattle.pc_outside.specs.declared.answers.Refused.{Refused};
 ghost use Rattle.fumen_pages.specs.declared.page.Page.{Page};

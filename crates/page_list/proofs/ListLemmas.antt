@@ -12,7 +12,7 @@ use Rattle.fumen_pages.specs.declared.list_fault.ListFault.{ListFault}
 use Rattle.page_list.specs.CellsReading.{cut_at}
 use Rattle.page_list.specs.ListReading.{without_return, whole_lines, lines_of, first_line, numbered_page, pages_from, HasFirstPage}
 use Rattle.fumen_digits.specs.Reading.{◌>>=◌}
-use Rattle.fumen_digits.specs.Answers.{Gives}
+use Rattle.fumen_digits.specs.ReadResults.{Gives}
 
 abbrev is_newline : ℕ → Bool
 is_newline byte = byte == 10

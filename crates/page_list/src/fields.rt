@@ -4,7 +4,7 @@ ghost use Rattle.std.specs.List.{list_all};
 ghost use Rattle.std.specs.Option.{ok_or};
 ghost use Rattle.fumen_pages.specs.declared.list_fault.ListKind.TheVariants.{BadComment};
 ghost use Rattle.page_list.specs.FieldsReading.{comment_in, flag_in, flags_in, is_dash, is_mark, operation_in};
-ghost use Rattle.fumen_digits.specs.Answers.{Gives};
+ghost use Rattle.fumen_digits.specs.ReadResults.{Gives};
 ghost use Rattle.pc_outside.specs.declared.answers.Refused.{Refused};
 
 use fumen_comment::{Comment, unescape};

@@ -2,7 +2,7 @@
 ghost use Rattle.std.specs.Prelude.{◌≡◌, ◌==◌, not, None, Some, MatchOption, Err, IsOk};
 ghost use Rattle.std.specs.List.{list_all};
 ghost use Rattle.page_list.specs.LineReading.{divided, four_in, is_field, line_in};
-ghost use Rattle.fumen_digits.specs.Answers.{Gives};
+ghost use Rattle.fumen_digits.specs.ReadResults.{Gives};
 ghost use Rattle.pc_outside.specs.declared.answers.Refused.{Refused};
 
 use crate::cells::{cells_in, cut_at};

@@ -11,7 +11,7 @@ use Rattle.pc_faults.specs.declared.status.Status.{Status}
 use Rattle.pc_faults.specs.declared.status.Status.TheVariants.{Done, Input, SourceFault, SinkFault, NoMemory}
 use Rattle.pc_faults.specs.declared.words_fault.WordsFault.{WordsFault}
 use Rattle.pc_faults.specs.Inner.{IsInner, is_outer}
-use Rattle.pc_source.specs.Answers.{IsAnswered, WroteFront}
+use Rattle.pc_source.specs.Statuses.{IsAnswered, WroteFront}
 use Rattle.pc_source.specs.Ends.{CommandEnds}
 use Rattle.pc_source.specs.Had.{IsUnread}
 use Rattle.pc_source.specs.Sink.{SinkChange}

@@ -9,7 +9,7 @@ use Rattle.pc_faults.specs.declared.status.Status.{Status}
 use Rattle.pc_faults.specs.declared.status.Status.TheVariants.{Done, Input, SourceFault, SinkFault, NoMemory}
 use Rattle.pc_faults.specs.declared.words_fault.WordsFault.{WordsFault}
 use Rattle.pc_faults.specs.FaultLine as lines
-use Rattle.pc_source.specs.Answers.{EndsBy}
+use Rattle.pc_source.specs.Statuses.{EndsBy}
 use Rattle.pc_source.specs.Sink.{SinkChange}
 use Rattle.pc_source.specs.Source.{LeavesSource}
 use Rattle.pc_source.specs.Task.{ForBytes, ForSomeBytes, Needs, Task, first_fault, is_source, nothing, reads_source}

@@ -4,7 +4,7 @@ use Rattle.pc_outside.specs.Counts.{Rose}
 use Rattle.pc_faults.specs.declared.fault.Fault.{Fault}
 use Rattle.pc_faults.specs.declared.status.Status.{Status}
 use Rattle.pc_faults.specs.declared.status.Status.TheVariants.{Done, Input, SourceFault, SinkFault, NoMemory}
-use Rattle.pc_source.specs.Answers.{DoneAfter, FailedAfterFront, WantsMemory}
+use Rattle.pc_source.specs.Statuses.{DoneAfter, FailedAfterFront, WantsMemory}
 use Rattle.pc_source.specs.Sink.{SinkChange}
 use Rattle.pc_source.specs.Task.{ForBytes, ForSomeBytes, Task, first_fault, reads_source}
 use Rattle.pc_source.specs.Work.{Works}

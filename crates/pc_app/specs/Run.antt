@@ -10,7 +10,7 @@ use Rattle.pc_faults.specs.declared.status.Status.{Status}
 use Rattle.pc_faults.specs.declared.status.Status.TheVariants.{Done, Input, SourceFault, SinkFault, NoMemory}
 use Rattle.pc_faults.specs.declared.words_fault.WordsFault.{WordsFault}
 use Rattle.pc_faults.specs.FaultLine.{fault_line}
-use Rattle.pc_source.specs.Answers.{EndsBy, FailedAfterFront, Wrote}
+use Rattle.pc_source.specs.Statuses.{EndsBy, FailedAfterFront, Wrote}
 use Rattle.pc_source.specs.Sink.{SinkChange}
 use Rattle.pc_source.specs.Source.{LeavesSource}
 use Rattle.pc_source.specs.Task.{ForBytes, ForSomeBytes, first_fault, reads_source}

@@ -14,7 +14,7 @@ use Rattle.pc_faults.specs.declared.status.Status.{Status}
 use Rattle.pc_faults.specs.declared.status.Status.TheVariants.{Done, Input, SourceFault, SinkFault, NoMemory}
 use Rattle.pc_faults.specs.Codes.{status_code}
 use Rattle.pc_faults.specs.FaultLine.{fault_line}
-use Rattle.pc_source.specs.Answers.{FailedAfterFront, Wrote}
+use Rattle.pc_source.specs.Statuses.{FailedAfterFront, Wrote}
 use Rattle.pc_source.specs.Sink.{SinkChange, sink_change}
 use Rattle.pc_source.specs.Task.{ForBytes, ForSomeBytes, HasBytes, Sees, Task, first_fault, reads_source}
 use Rattle.pc_source.specs.Work.{Works}

@@ -3,7 +3,7 @@ use Rattle.std.proofs.Common.{◌≡◌, ℕ, ◌+◌, ◌<◌, ◌≤◌, true,
 use Rattle.pc_outside.specs.declared.answers.Refused.{Refused}
 use Rattle.pc_outside.specs.declared.answers.Refused.TheVariants as refused
 use Rattle.srs.specs.declared.placement.Placement.{Placement}
-use Rattle.fumen_digits.specs.Answers.{IsRefusal}
+use Rattle.fumen_digits.specs.ReadResults.{IsRefusal}
 use Rattle.fumen_digits.specs.Reading.{◌>>=◌}
 use Rattle.page_list.specs.ListReading.{first_line, lines_of}
 use Rattle.page_list.proofs.CallerLemmas.{lines-more, none-left}

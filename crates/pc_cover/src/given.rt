@@ -1,7 +1,7 @@
 // The sequences that the lines of the source spell.
 ghost use Rattle.std.specs.Prelude.{◌≡◌, ◌<◌, ◌≤◌, ◌^◌, IfErr, OnOk, length, map};
 ghost use Rattle.std.specs.List.{list_all};
-ghost use Rattle.fumen_digits.specs.Answers.{Gives, Reads};
+ghost use Rattle.fumen_digits.specs.ReadResults.{Gives, Reads};
 ghost use Rattle.pc_cover.specs.Given.{given_in, is_count, is_counted, is_digit, is_tail, numbered_sequence};
 ghost use Rattle.pc_cover.specs.LineSteps.{ReadsLine, RefusesLine};
 ghost use Rattle.pc_cover.specs.Sequences.{listed_placements};

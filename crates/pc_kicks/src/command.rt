@@ -1,7 +1,7 @@
 // The command `kicks`: a table of offsets, and its kicks.
 ghost use Rattle.std.specs.Prelude.{◌≡◌, [], Ok};
 ghost use Rattle.srs.specs.Rules.{table_of};
-ghost use Rattle.pc_source.specs.Answers.{IsAnswered};
+ghost use Rattle.pc_source.specs.Statuses.{IsAnswered};
 ghost use Rattle.pc_source.specs.Sink.{sink_change};
 ghost use Rattle.pc_kicks.specs.KicksTask.{kicks_task};
 

@@ -6,7 +6,7 @@ ghost use Rattle.std.specs.List.{flat_map};
 ghost use Rattle.line_writing.specs.WriteCause.{HasWriteCause};
 ghost use Rattle.pc_outside.specs.Writes.{WritesAll};
 ghost use Rattle.page_list.specs.PrintedLine.{page_form};
-ghost use Rattle.pc_source.specs.Answers.{IsAnswered};
+ghost use Rattle.pc_source.specs.Statuses.{IsAnswered};
 ghost use Rattle.pc_source.specs.Had.{IsShowable};
 ghost use Rattle.pc_source.specs.Sink.{sink_change};
 ghost use Rattle.pc_pages.specs.Tasks.{decode_task};

@@ -5,7 +5,7 @@ ghost use Rattle.fumen_pages.specs.declared.list_fault.ListFault.{ListFault};
 ghost use Rattle.pc_faults.specs.declared.status.Status.{Status};
 ghost use Rattle.page_list.specs.LineSpelling.{IsListFault, SpellsPages};
 ghost use Rattle.page_list.specs.ListReading.{pages_in};
-ghost use Rattle.pc_source.specs.Answers.{IsAnswered};
+ghost use Rattle.pc_source.specs.Statuses.{IsAnswered};
 ghost use Rattle.pc_source.specs.Had.{IsRefusedInput};
 ghost use Rattle.pc_source.specs.Sink.{sink_change};
 ghost use Rattle.pc_pages.specs.Faults.{encode_fault, lines_fault};

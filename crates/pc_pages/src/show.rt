@@ -5,7 +5,7 @@ ghost use Rattle.pc_faults.specs.declared.status.Status.{Status};
 ghost use Rattle.std.specs.Option.{ForSome};
 ghost use Rattle.pc_outside.specs.Counts.{HasCause};
 ghost use Rattle.pc_outside.specs.Writes.{WritesAll};
-ghost use Rattle.pc_source.specs.Answers.{IsAnswered};
+ghost use Rattle.pc_source.specs.Statuses.{IsAnswered};
 ghost use Rattle.pc_source.specs.Had.{IsShowable};
 ghost use Rattle.pc_source.specs.Sink.{sink_change};
 ghost use Rattle.pc_pages.specs.Output.{shown_from};

@@ -9,7 +9,7 @@ use Rattle.pc_settings.specs.declared.format.Format.TheVariants.{Fumen}
 use Rattle.pc_settings.specs.Request.{PathRequest}
 use Rattle.pc_faults.specs.declared.status.Status.{Status}
 use Rattle.pc_faults.specs.declared.status.Status.TheVariants.{Done, SinkFault, NoMemory}
-use Rattle.pc_source.specs.Answers.{IsAnswered}
+use Rattle.pc_source.specs.Statuses.{IsAnswered}
 use Rattle.pc_source.specs.Sink.{SinkChange}
 use Rattle.pc_source.specs.Work.{Works}
 use Rattle.line_writing.specs.declared.write_fault.WriteFault.{WriteFault}

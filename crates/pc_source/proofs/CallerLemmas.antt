@@ -16,7 +16,7 @@ use Rattle.pc_faults.specs.declared.fault.Fault.TheVariants.{SourceTooLong}
 use Rattle.pc_faults.proofs.CallerLemmas.{second_left}
 use Rattle.pc_faults.specs.Codes.{refused_status, written_status}
 use Rattle.pc_settings.specs.Request.{FieldText, fumen_text, rows_text}
-use Rattle.pc_source.specs.Answers.{IsAnswered}
+use Rattle.pc_source.specs.Statuses.{IsAnswered}
 use Rattle.pc_source.specs.Faults.{cells_asked, cells_read, field_fault, text_fault}
 use Rattle.pc_source.specs.FieldText.{DashText, IsFieldOf, IsFumenField, field_needs, is_dash, itself, of_source, text_given}
 use Rattle.pc_source.specs.Had.{HasText, IsRefusedInput}

@@ -10,7 +10,7 @@ use Rattle.pc_faults.specs.Codes.{refused_status}
 use Rattle.pc_faults.specs.Inner.{IsInner}
 use Rattle.pc_faults.proofs.CallerLemmas.{inner_first}
 use Rattle.pc_settings.specs.Request.{FieldText}
-use Rattle.pc_source.specs.Answers.{IsAnswered}
+use Rattle.pc_source.specs.Statuses.{IsAnswered}
 use Rattle.pc_source.specs.Ends.{CommandEnds}
 use Rattle.pc_source.specs.Faults.{cells_asked, field_fault}
 use Rattle.pc_source.specs.FieldTask.{SourceOf, asked_needs, field_task, fault_after_field, rest_bytes, dash_text}

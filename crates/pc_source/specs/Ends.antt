@@ -1,7 +1,7 @@
 -- How a command ended.
 use Rattle.std.specs.Prelude.{ℕ, ◌-◌, ◌≤◌, List}
 use Rattle.pc_faults.specs.declared.status.Status.{Status}
-use Rattle.pc_source.specs.Answers.{IsAnswered}
+use Rattle.pc_source.specs.Statuses.{IsAnswered}
 use Rattle.pc_source.specs.Sink.{SinkChange}
 use Rattle.pc_source.specs.Task.{Task}
 use Rattle.pc_source.specs.Work.{Works}

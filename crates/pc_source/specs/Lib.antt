@@ -1,5 +1,4 @@
 -- What a reader must believe.
-pub mod Answers
 pub mod Ends
 pub mod Faults
 pub mod FieldTask
@@ -8,6 +7,7 @@ pub mod Problem
 pub mod ProblemFaults
 pub mod Sink
 pub mod Source
+pub mod Statuses
 pub mod Task
 pub mod Work
 -- What contracts cite beside these: views of values, and readings and tests, each with its law.

@@ -3,7 +3,7 @@ use Rattle.std.specs.Prelude.{◌≡◌, ℕ, Bool, List, [], ◌++◌, Some, No
 use Rattle.pc_outside.specs.Writes.{Grows}
 use Rattle.pc_faults.specs.declared.status.Status.{Status}
 use Rattle.pc_faults.specs.declared.status.Status.TheVariants.{Done, Input}
-use Rattle.pc_source.specs.Answers.{Wrote}
+use Rattle.pc_source.specs.Statuses.{Wrote}
 use Rattle.pc_source.specs.Sink.{SinkChange}
 use Rattle.pc_source.specs.Task.{Task, first_fault}
 use Rattle.pc_path.specs.Output.{stats_form}

@@ -6,7 +6,7 @@ use Rattle.fumen_digits.specs.Number.{NumberStands}
 use Rattle.fumen_digits.specs.declared.number.DigitFault.{DigitFault}
 use Rattle.fumen_digits.specs.Reading.{number_at}
 use Rattle.fumen_digits.specs.Fault.{digit_fault}
-use Rattle.fumen_digits.specs.Answers.{Reads}
+use Rattle.fumen_digits.specs.ReadResults.{Reads}
 use Rattle.fumen_digits.proofs.Answered.{reads_ok, reads_err, ok_from_read, err_from_read, same_digit_fault}
 use Rattle.fumen_digits.proofs.NumberReadAsSpelled.{stands_from_read, read_from_stands, number_fault_from_read, read_from_number_fault}
 use Rattle.fumen_digits.proofs.number.read_number.Goals as goal

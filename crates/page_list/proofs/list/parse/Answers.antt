@@ -5,7 +5,7 @@ use Rattle.pc_outside.specs.declared.answers.Refused.{Refused}
 use Rattle.pc_outside.specs.declared.answers.Refused.TheVariants as refused
 use Rattle.fumen_pages.specs.declared.page.Page.{Page}
 use Rattle.fumen_pages.specs.declared.list_fault.ListFault.{ListFault}
-use Rattle.fumen_digits.specs.Answers.{Gives}
+use Rattle.fumen_digits.specs.ReadResults.{Gives}
 use Rattle.page_list.specs.ListReading.{pages_in}
 use Rattle.page_list.proofs.PagesReadAsSpelled.{pages_spelled, spelled_pages_read, fault_spelled, later_fault, spelled_fault_read}
 use Rattle.page_list.proofs.list.parse.Goals as goal

@@ -5,7 +5,7 @@ use Rattle.pc_outside.specs.declared.answers.Refused.TheVariants as refused
 use Rattle.fumen_pages.specs.declared.page.Page.{Page}
 use Rattle.fumen_pages.specs.declared.list_fault.ListFault.{ListFault}
 use Rattle.page_list.specs.ListReading.{pages_in}
-use Rattle.fumen_digits.specs.Answers.{Gives}
+use Rattle.fumen_digits.specs.ReadResults.{Gives}
 use Rattle.pc_pages.specs.Faults.{lines_fault}
 use Rattle.pc_pages.proofs.encode.list_pages.Goals as goal
 

@@ -1,7 +1,7 @@
 -- A text is read as pages.
 use Rattle.std.proofs.Common.{subst}
 use Rattle.fumen_digits.specs.declared.fault.FumenFault.{FumenFault}
-use Rattle.fumen_digits.specs.Answers.{IsRefusal}
+use Rattle.fumen_digits.specs.ReadResults.{IsRefusal}
 use Rattle.fumen_text.specs.Reading.{text_pages}
 use Rattle.pc_source.proofs.ShowablePages.{read_showable}
 use Rattle.pc_source.proofs.TextFaults.{has_fault}
