@@ -27,11 +27,11 @@ pub fn hand_of(hold: Hold, held: Option<Piece>, placements: u8, queue: &Queue) -
 {
     let placements = usize::from(placements);
     let pieces = queue.as_slice();
-    if let Hold::Avoided = hold {
-        return number_of(pieces, placements);
+    if let Some(piece) = hold.playable(held) {
+        return u64::from(piece.code()) + 8 * number_of(pieces, placements);
     }
-    match held {
-        None => number_of(pieces, placements + 1),
-        Some(piece) => u64::from(piece.code()) + 8 * number_of(pieces, placements),
+    match hold {
+        Hold::Allowed => number_of(pieces, placements + 1),
+        Hold::Avoided => number_of(pieces, placements),
     }
 }
