@@ -7,7 +7,7 @@ use Rattle.kick_file.specs.declared.fault.KickFault.{KickFault}
 use Rattle.kick_file.specs.Reading.{kick_text, read_on}
 use Rattle.pc_faults.specs.declared.fault.Fault.{Fault}
 use Rattle.pc_faults.specs.declared.words_fault.WordsFault.{WordsFault}
-use Rattle.pc_settings.specs.Request.{ComboRequest, FieldRequest, FieldText, IsInRange}
+use Rattle.pc_settings.specs.Request.{FieldRequest, FieldText, IsInRange}
 use Rattle.pc_words.specs.declared.options.Command.{Command}
 use Rattle.pc_words.specs.declared.options.Command.TheVariants as commands
 use Rattle.pc_words.specs.declared.options.CommandOption.TheVariants.{Kicks, Page, Patterns, Rows, Tetfu}
@@ -16,7 +16,7 @@ use Rattle.pc_words.specs.Values.{page_count_in, page_in}
 use Rattle.pc_words.specs.declared.options.Values.{Values}
 use Rattle.pc_words.specs.declared.settings.Settings.{Settings}
 use Rattle.pc_words.specs.Views.{AsksInRange, HasNumber, settings_reading, settings_view}
-use Rattle.pc_words.specs.Words.{combo_request, combo_request_with, command_read, field_given, field_request, or_missing, request_in, request_of, request_where, request_with, selfrun_with, table_given, value_of, values_in, with_table, asked_in}
+use Rattle.pc_words.specs.Words.{command_read, field_given, field_request, or_missing, request_in, request_of, request_where, request_with, selfrun_with, table_given, value_of, values_in, with_table, asked_in}
 
 abbrev IsBetween : ℕ → ℕ → ℕ → Type 0
 IsBetween least most n = (least ≤ n) × (n ≤ most)
@@ -35,9 +35,6 @@ Fits request = AsksInRange request × (text : List ℕ) × (table_asked request 
 abbrev FieldFits : List (List ℕ) → FieldRequest → Type 0
 FieldFits pairs request = IsInRange request × (request.table ≡ table_given pairs)
 
-abbrev RunFits : List (List ℕ) → ComboRequest → Type 0
-RunFits pairs request = (1 ≤ request.page) × (request.table ≡ table_given pairs)
-
 no_table : Ok srs_table ≡ kick_text []
 unfolding read_on
 no_table = refl
@@ -48,13 +45,6 @@ field_within pairs field patterns request is = search rules
 field_asked : (pairs : List (List ℕ)) (request : FieldRequest) → field_request pairs (values_in pairs) ≡ Some request → FieldFits pairs request
 unfolding field_request
 field_asked pairs request is = field_within pairs (field_given (value_of Rows pairs) (value_of Tetfu pairs)) (value_of Patterns pairs) request is
-
-run_within : (pairs : List (List ℕ)) (field : Option FieldText) (patterns : Option (List ℕ)) (request : ComboRequest) → combo_request_with pairs (values_in pairs) field patterns ≡ Some request → RunFits pairs request
-run_within pairs field patterns request is = search rules
-
-run_asked : (pairs : List (List ℕ)) (request : ComboRequest) → combo_request pairs (values_in pairs) ≡ Some request → RunFits pairs request
-unfolding combo_request
-run_asked pairs request is = run_within pairs (field_given (value_of Rows pairs) (value_of Tetfu pairs)) (value_of Patterns pairs) request is
 
 same_ok : (x y : Request) → ◌≡◌ {A = Result Request WordsFault} (Ok x) (Ok y) → x ≡ y
 same_ok x y e = cc
@@ -84,7 +74,7 @@ of_command : (command : Command) (pairs : List (List ℕ)) (request : Request) �
 of_command commands.Path pairs request is = search (rules, asked_by, path, field_asked)
 of_command commands.Percent pairs request is = search (rules, asked_by, percent, field_asked)
 of_command commands.Cover pairs request is = search (rules, asked_by, cover, field_asked)
-of_command commands.Combo pairs request is = search (rules, asked_by, combo, run_asked)
+of_command commands.Combo pairs request is = search (rules, asked_by, combo, field_asked)
 of_command commands.Decode pairs request is = subst Fits (same_ok _ request is) (tt, [], no_table)
 of_command commands.Encode pairs request is = subst Fits (same_ok _ request is) (tt, [], no_table)
 of_command commands.Show pairs request is = subst Fits (same_ok _ request is) (number_given (value_of Page pairs), [], no_table)

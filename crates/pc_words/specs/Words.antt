@@ -122,23 +122,18 @@ percent_request values common = record {
   failed = unwrap_or values.failed 0;
 }
 
-abbrev pub combo_request_with : List (List ℕ) → Values → Option FieldText → Option (List ℕ) → Option ComboRequest
-combo_request_with pairs values (Some field) (Some patterns) = Some (record {
-  field = field;
-  page = unwrap_or values.page 1;
-  patterns = patterns;
-  hold = unwrap_or values.hold Allowed;
-  held = values.held;
-  drop_mode = unwrap_or values.drop_mode Soft;
-  table = table_given pairs;
+-- a run is asked for as a field is, without its height
+abbrev pub combo_request : Values → FieldRequest → ComboRequest
+combo_request values common = record {
+  field = common.field;
+  page = common.page;
+  patterns = common.patterns;
+  hold = common.hold;
+  held = common.held;
+  drop_mode = common.drop_mode;
+  table = common.table;
   keys = unwrap_or values.keys false;
-})
-combo_request_with pairs values _ _ = None
-
--- what is asked about a run; the field and the pattern are required
-unfoldable pub combo_request : List (List ℕ) → Values → Option ComboRequest
-combo_request pairs values = combo_request_with pairs values (field_given (value_of Rows pairs) (value_of Tetfu pairs))
-    (value_of Patterns pairs)
+}
 
 -- how many pages are made, and from which number; both are required
 abbrev pub selfrun_with : Option ℕ → Option ℕ → Option Request
@@ -158,8 +153,8 @@ request_of commands.Percent pairs values = or_missing pairs (option_map
     (λ common. percent (percent_request values common)) (field_request pairs values))
 request_of commands.Cover pairs values = or_missing pairs (option_map (λ common. cover common)
     (field_request pairs values))
-request_of commands.Combo pairs values = or_missing pairs (option_map (λ request. combo request)
-    (combo_request pairs values))
+request_of commands.Combo pairs values = or_missing pairs (option_map (λ common. combo (combo_request values common))
+    (field_request pairs values))
 request_of commands.Decode pairs values = Ok decode
 request_of commands.Encode pairs values = Ok (encode (unwrap_or values.dialect V115))
 request_of commands.Show pairs values = Ok (show values.page)

@@ -127,32 +127,19 @@ fn percent_settings(values: Values, common: FieldSettings<'_>) -> PercentSetting
     }
 }
 
-/// What is asked about a run. The field and the pattern are required.
-#[tactic(auto, unfolding(crate::specs::Words::combo_request))]
-fn combo_settings(pairs: &[String], values: Values) -> Result<ComboSettings<'_>, Fault>
-    requires { length pairs.now + 1 < 2 ^ 64 }
-    ensures value { IfOk result (λ settings.
-        combo_request (texts pairs.entry.now) values ≡ Some (combo_view settings)) }
-    ensures fault { IfErr result (λ fault. Refuses (texts pairs.entry.now)
-        (option_map (λ request. request.table) (combo_request (texts pairs.entry.now) values)) fault) }
+fn combo_settings<'a>(values: Values, common: FieldSettings<'a>) -> ComboSettings<'a>
+    ensures { combo_view result ≡ combo_request values (field_view common.entry) }
 {
-    let Some(field) = field_words(pairs) else {
-        return Err(missing(pairs));
-    };
-    let Some(patterns) = value_of(CommandOption::Patterns, pairs) else {
-        return Err(missing(pairs));
-    };
-    let rules = rules_of(pairs)?;
-    Ok(ComboSettings {
-        field,
-        page: values.page.unwrap_or(1),
-        patterns,
-        hold: values.hold.unwrap_or(Hold::Allowed),
-        held: values.held,
-        drop_mode: values.drop_mode.unwrap_or(DropMode::Soft),
-        rules,
+    ComboSettings {
+        field: common.field,
+        page: common.page,
+        patterns: common.patterns,
+        hold: common.hold,
+        held: common.held,
+        drop_mode: common.drop_mode,
+        rules: common.rules,
         keys: values.keys.unwrap_or(false),
-    })
+    }
 }
 
 fn missing(pairs: &[String]) -> Fault
@@ -203,8 +190,8 @@ pub fn settings_of(
             Ok(common) => Ok(Settings::Cover(common)),
             Err(fault) => Err(fault),
         },
-        Command::Combo => match combo_settings(pairs, values) {
-            Ok(settings) => Ok(Settings::Combo(settings)),
+        Command::Combo => match field_settings(pairs, values) {
+            Ok(common) => Ok(Settings::Combo(combo_settings(values, common))),
             Err(fault) => Err(fault),
         },
         Command::Decode => Ok(Settings::Decode),
