@@ -5,6 +5,8 @@ use Rattle.pc_outside.specs.declared.reading.ReadError.{ReadError}
 use Rattle.pc_outside.specs.declared.reading.ReadError.TheVariants as read
 use Rattle.pc_outside.specs.declared.answers.Refused.{Refused}
 use Rattle.pc_outside.specs.declared.answers.Refused.TheVariants as refused
+use Rattle.line_writing.specs.declared.write_fault.WriteFault.{WriteFault}
+use Rattle.line_writing.specs.declared.write_fault.WriteFault.TheVariants as line
 use Rattle.pc_faults.specs.declared.fault.Fault.{Fault}
 use Rattle.pc_faults.specs.declared.fault.Fault.TheVariants.{SourceTooLong}
 use Rattle.pc_faults.specs.declared.status.Status.{Status}
@@ -29,3 +31,9 @@ refused_status refused.NoMemory = NoMemory
 abbrev pub written_status : {T E : Type 0} → Result T E → Status
 written_status (Ok all) = Done
 written_status (Err failed) = SinkFault
+
+-- how a run ends by what its last line answered
+abbrev pub line_status : {T : Type 0} → Result T WriteFault → Status
+line_status (Ok written) = Done
+line_status (Err line.Failed) = SinkFault
+line_status (Err line.NoMemory) = NoMemory

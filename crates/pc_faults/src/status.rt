@@ -1,8 +1,9 @@
 // How a run ended.
 ghost use Rattle.std.specs.Prelude.{◌≡◌};
-ghost use Rattle.pc_faults.specs.Codes.{status_code, written_status};
+ghost use Rattle.pc_faults.specs.Codes.{line_status, status_code, written_status};
 
 use crate::fault::Fault;
+use line_writing::WriteFault;
 use pc_outside::{Failed, ReadError, Refused};
 
 /// How a run ended.
@@ -41,6 +42,17 @@ impl Status {
         match written {
             Ok(()) => Status::Done,
             Err(_) => Status::SinkFault,
+        }
+    }
+
+    /// How a run ends, given the result of its last line.
+    pub fn after_line(written: Result<(), WriteFault>) -> Status
+        ensures { result ≡ line_status written }
+    {
+        match written {
+            Ok(()) => Status::Done,
+            Err(WriteFault::Failed) => Status::SinkFault,
+            Err(WriteFault::NoMemory) => Status::NoMemory,
         }
     }
 }

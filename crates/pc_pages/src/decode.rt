@@ -30,11 +30,7 @@ pub fn run_decode<O: Sink>(alloc: Global, bytes: &[u8], out: &mut O) -> Status
         Ok(pages) => pages,
         Err(refused) => return Status::from(refused),
     };
-    match write_lines(alloc, out, &pages) {
-        Ok(()) => Status::Done,
-        Err(WriteFault::Failed) => Status::SinkFault,
-        Err(WriteFault::NoMemory) => Status::NoMemory,
-    }
+    Status::after_line(write_lines(alloc, out, &pages))
 }
 
 /// Writes the lines of pages, one after the other.

@@ -1,17 +1,12 @@
 -- The forms in which `path` writes sequences, and what they mean for its memory.
-use Rattle.std.specs.Prelude.{ℕ, Bool, true, false, List, Result, Ok, Err}
+use Rattle.std.specs.Prelude.{ℕ, Bool, true, false, List}
 use Rattle.lane_board.specs.Field.{Field}
 use Rattle.srs.specs.declared.placement.Placement.{Placement}
 use Rattle.srs.specs.Rules.{table_of}
 use Rattle.well.specs.Well.{filled}
-use Rattle.pc_outside.specs.declared.answers.Failed.{Failed}
 use Rattle.problem.specs.declared.problem.Problem.{Problem}
 use Rattle.pc_settings.specs.declared.format.Format.{Format}
 use Rattle.pc_settings.specs.declared.format.Format.TheVariants.{Text, Fumen, Grid}
-use Rattle.pc_faults.specs.declared.status.Status.{Status}
-use Rattle.pc_faults.specs.declared.status.Status.TheVariants as status
-use Rattle.line_writing.specs.declared.write_fault.WriteFault.{WriteFault}
-use Rattle.line_writing.specs.declared.write_fault.WriteFault.TheVariants as fault
 use Rattle.report.specs.Forms.{KeysOf, key_part, line_form}
 use Rattle.report.specs.FumenLine.{fumen_form}
 use Rattle.report.specs.Grid.{grid_form}
@@ -34,14 +29,3 @@ abbrev pub takes_memory_first : Format → Bool
 takes_memory_first Fumen = false
 takes_memory_first Text = true
 takes_memory_first Grid = true
-
--- a failed write as a line that is not written
-abbrev pub as_line : {T : Type 0} → Result T Failed → Result T WriteFault
-as_line (Ok written) = Ok written
-as_line (Err failed) = Err fault.Failed
-
--- how a run ends by what its last line answered
-abbrev pub line_status : {T : Type 0} → Result T WriteFault → Status
-line_status (Ok written) = status.Done
-line_status (Err fault.Failed) = status.SinkFault
-line_status (Err fault.NoMemory) = status.NoMemory

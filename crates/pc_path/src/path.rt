@@ -15,7 +15,7 @@ ghost use Rattle.pc_path.specs.Work.{IsSearchOf, StoppedBefore};
 ghost use Rattle.pc_path.specs.Writer.{asked_of, form_of};
 
 use crate::listing::listing_of;
-use crate::writer::{SolutionWriter, as_line, line_status};
+use crate::writer::SolutionWriter;
 use enumerate::Search;
 use line_writing::WriteFault;
 use pc_faults::Status;
@@ -56,11 +56,11 @@ fn write_report<O: Sink, L: Ledger>(
     for count in 0..limit {
         let sequence = match search.next(steps) {
             Some(sequence) => sequence,
-            None => return as_line(write_tail(out, Tail::End, u64::from(count))),
+            None => return write_tail(out, Tail::End, u64::from(count)).map_err(WriteFault::from),
         };
         writer.write(alloc, out, problem, &sequence)?;
     }
-    as_line(write_tail(out, Tail::Limit, u64::from(limit)))
+    write_tail(out, Tail::Limit, u64::from(limit)).map_err(WriteFault::from)
 }
 
 /// Writes the report and, if it is asked for, the number of floods that the search made.
@@ -91,7 +91,7 @@ fn write_listing<O: Sink, L: Ledger>(
 {
     write_report(alloc, out, problem, search, settings.limit, writer, steps)?;
     if settings.stats {
-        return as_line(write_floods(out, search.floods()));
+        return write_floods(out, search.floods()).map_err(WriteFault::from);
     }
     Ok(())
 }
@@ -131,5 +131,5 @@ pub fn run_path<O: Sink, L: Ledger>(
         &mut writer,
         steps,
     );
-    line_status(written)
+    Status::after_line(written)
 }

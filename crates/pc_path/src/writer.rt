@@ -5,12 +5,10 @@ ghost use Rattle.well.specs.Well.{filled};
 ghost use Rattle.pc_outside.specs.Writes.{WritesAll};
 ghost use Rattle.problem.specs.Plays.{Plays};
 ghost use Rattle.line_writing.specs.WriteCause.{HasWriteCause};
-ghost use Rattle.pc_path.specs.Formats.{as_line, line_status};
 ghost use Rattle.pc_path.specs.Writer.{IsNewForm, format_of};
 
 use line_writing::WriteFault;
-use pc_faults::Status;
-use pc_outside::{Failed, NoMemory, Sink};
+use pc_outside::{NoMemory, Sink};
 use pc_settings::Format;
 use problem::{Problem, Sequence};
 use report::{FumenWriter, WrittenKeys, write_grid, write_line};
@@ -81,32 +79,11 @@ impl SolutionWriter {
         ensures same { asked_of self.new ≡ asked_of self.old }
     {
         match &mut self.form {
-            FormWriter::Text => as_line(write_line(out, problem, sequence, &mut self.keys)),
-            FormWriter::Grid => as_line(write_grid(out, problem, sequence, &mut self.keys)),
+            FormWriter::Text => Ok(write_line(out, problem, sequence, &mut self.keys)?),
+            FormWriter::Grid => Ok(write_grid(out, problem, sequence, &mut self.keys)?),
             FormWriter::Fumen(writer) => {
                 writer.write_line(alloc, out, problem, sequence, &mut self.keys)
             }
         }
-    }
-}
-
-/// A failed write, as the reason why a line was not written.
-pub fn as_line(written: Result<(), Failed>) -> Result<(), WriteFault>
-    ensures { result ≡ as_line written }
-{
-    match written {
-        Ok(()) => Ok(()),
-        Err(_) => Err(WriteFault::Failed),
-    }
-}
-
-/// How a run ends, given the result of its last line.
-pub fn line_status(written: Result<(), WriteFault>) -> Status
-    ensures { result ≡ line_status written }
-{
-    match written {
-        Ok(()) => Status::Done,
-        Err(WriteFault::Failed) => Status::SinkFault,
-        Err(WriteFault::NoMemory) => Status::NoMemory,
     }
 }

@@ -1,10 +1,13 @@
 -- What crates above cite: faults of texts, fields, problems, and what calls answer and add to the counter of floods.
-use Rattle.std.proofs.Common.{◌≡◌, ◌≢◌, ◌∙◌, ℕ, ◌-◌, ◌<◌, ◌≤◌, length, List, Bool, true, false, Option, Some, None, Result, Ok, Err, refl, sym, subst, ap, arith, inl}
+use Rattle.std.proofs.Common.{◌≡◌, ◌≢◌, ◌∙◌, ℕ, ◌-◌, ◌<◌, ◌≤◌, length, List, Bool, true, false, Option, Some, None, Result, Ok, Err, refl, sym, subst, ap, arith, inl, inr}
 use Rattle.std.proofs.lemmas.Bool.{lt-ltb, le-ltb}
 use Rattle.lane_board.specs.Field.{Field}
 use Rattle.fumen_digits.specs.Framing.{digits_in}
 use Rattle.fumen_text.specs.Reading.{text_pages}
 use Rattle.fumen_pages.specs.declared.page.Page.{Page}
+use Rattle.line_writing.specs.declared.write_fault.WriteFault.{WriteFault}
+use Rattle.line_writing.specs.declared.write_fault.WriteFault.TheVariants as line
+use Rattle.line_writing.specs.WriteCause.{HasWriteCause}
 use Rattle.pc_outside.specs.Counts.{HasCause}
 use Rattle.pc_outside.specs.Writes.{WritesAll}
 use Rattle.pc_outside.specs.declared.answers.Refused.{Refused}
@@ -14,7 +17,7 @@ use Rattle.pc_faults.specs.declared.status.Status.{Status}
 use Rattle.pc_faults.specs.declared.status.Status.TheVariants.{Done, Input, SourceFault, SinkFault, NoMemory}
 use Rattle.pc_faults.specs.declared.fault.Fault.TheVariants.{SourceTooLong}
 use Rattle.pc_faults.proofs.CallerLemmas.{second_left}
-use Rattle.pc_faults.specs.Codes.{refused_status, written_status}
+use Rattle.pc_faults.specs.Codes.{line_status, refused_status, written_status}
 use Rattle.pc_settings.specs.Request.{FieldText, fumen_text, rows_text}
 use Rattle.pc_source.specs.Statuses.{IsAnswered}
 use Rattle.pc_source.specs.Faults.{cells_asked, cells_read, field_fault, text_fault}
@@ -70,6 +73,27 @@ pub written_answers : {T E : Type 0} (task : Task) (bytes output : List ℕ) (si
     → task.fault bytes ≡ None → task.IsOutput bytes floods output → WritesAll sink.held sink.holds result output → HasCause sink.alone sink.before sink.now result → IsAnswered task bytes sink Kept floods status
 written_answers task bytes output sink Kept floods result status same none is written cause =
     subst (IsAnswered task bytes sink Kept floods) (sym same) (writing_answers task bytes output sink Kept floods result none is written cause)
+
+line_answers : {T : Type 0} (task : Task) (bytes output : List ℕ) (sink : SinkChange) (Kept : Type 0) (floods : ℕ) (result : Result T WriteFault) → task.fault bytes ≡ None → task.IsOutput bytes floods output
+    → WritesAll sink.held sink.holds result output → HasWriteCause sink.alone sink.before sink.now result → (result ≡ Err line.NoMemory → task.memory_first ≡ false)
+    → IsAnswered task bytes sink Kept floods (line_status result)
+line_answers task bytes output sink Kept floods (Ok all) none is written cause later =
+    record { none = none; wrote = record { output = output; is_output = is; grown = written.done }; kept = λ alone. cause.kept alone (λ e. cc) }
+line_answers task bytes output sink Kept floods (Err line.Failed) none is written cause later =
+    record { none = none; front = record { output = output; is_output = is; grown = written.failed }; rose = cause.failed refl }
+line_answers task bytes output sink Kept floods (Err line.NoMemory) none is written cause later =
+    record {
+      known = λ _. none;
+      first = λ first. let other = later refl in absurd cc;
+      ended = inr (record { none = none; front = record { output = output; is_output = is; grown = written.failed }; kept = λ alone. cause.kept alone (λ e. cc) });
+    }
+
+-- the last line was written, a write failed, or memory was wanting for it
+pub last_line_answers : {T : Type 0} (task : Task) (bytes output : List ℕ) (sink : SinkChange) (Kept : Type 0) (floods : ℕ) (result : Result T WriteFault) (status : Status) → status ≡ line_status result
+    → task.fault bytes ≡ None → task.IsOutput bytes floods output → WritesAll sink.held sink.holds result output → HasWriteCause sink.alone sink.before sink.now result
+    → (result ≡ Err line.NoMemory → task.memory_first ≡ false) → IsAnswered task bytes sink Kept floods status
+last_line_answers task bytes output sink Kept floods result status same none is written cause later =
+    subst (IsAnswered task bytes sink Kept floods) (sym same) (line_answers task bytes output sink Kept floods result none is written cause later)
 
 writing_works : {T E : Type 0} (task : Task) (fault : Option Fault) (bytes : List ℕ) (sink : SinkChange) (floods : ℕ) (result : Result T E)
     → ((all : T) → result ≡ Ok all → task.IsWork bytes sink Done floods) → ((failed : E) → result ≡ Err failed → task.IsWork bytes sink SinkFault floods)

@@ -92,10 +92,10 @@ returns g c =
     let searched = subst (λ after. IsSearchOf problem after search floods) c.in-Ok-start.ensures.after c.write_listing-written.ensures.searched in
     let stopped = subst (λ asked. OnErr {T = Unit {0}} {E = WriteFault} c.write_listing-written.result (StoppedBefore (solution_form asked.0 asked.1 problem) (solutions before) (solutions search) sink.held sink.holds))
     asked c.write_listing-written.ensures.stopped in
-    path_ends request c.args.bytes.now sink _ c.args.steps.now c.write_listing-written.new.steps problem has c.line_status.result (record {
-      answers = report_answers request F sink floods c.in-Ok.ensures.none _ report (record { listed = listed; report = refl }) c.write_listing-written.result c.line_status.result c.line_status.ensures written c.write_listing-written.ensures.cause memory;
+    path_ends request c.args.bytes.now sink _ c.args.steps.now c.write_listing-written.new.steps problem has c.after_line.result (record {
+      answers = report_answers request F sink floods c.in-Ok.ensures.none _ report (record { listed = listed; report = refl }) c.write_listing-written.result c.after_line.result c.after_line.ensures written c.write_listing-written.ensures.cause memory;
       works =
-          report_works request F sink floods c.in-Ok.ensures.none c.write_listing-written.result c.line_status.result c.line_status.ensures
+          report_works request F sink floods c.in-Ok.ensures.none c.write_listing-written.result c.after_line.result c.after_line.ensures
           (λ all is. record {
             listed = listed;
             search = search;

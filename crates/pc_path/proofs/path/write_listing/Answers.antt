@@ -22,14 +22,14 @@ returns-then-settings-clause-written g c =
     let floods = c.write_report.new.steps - c.args.steps.now in
     let counted : c.floods.result ≡ as_count floods = c.floods.ensures ∙ ap as_count c.in_ok-write_report.ensures.searched.made in
     let form : floods_form c.floods.result ≡ stats_form c.args.settings.now.stats floods = ap floods_form counted ∙ ap (λ stats. stats_form stats floods) (sym c.if-settings.true) in
-    let line = subst (λ text. WritesAll {T = Unit {0}} {E = WriteFault} (g.O.Sink.written c.write_report.new.out) (g.O.Sink.written c.write_floods.new.out) c.as_line.result text) form (line_writes c.write_floods.result c.as_line.result c.as_line.ensures c.write_floods.ensures.written) in
+    let line = subst (λ text. WritesAll {T = Unit {0}} {E = WriteFault} (g.O.Sink.written c.write_report.new.out) (g.O.Sink.written c.write_floods.new.out) c.map_err.result text) form (line_writes c.write_floods.result c.map_err.result c.map_err.ensures.cases c.write_floods.ensures.written) in
     two_calls c.in_ok-write_report.ensures.written line
 
 pub returns-then-settings-clause-cause : goal.returns-then-settings-clause-cause
-returns-then-settings-clause-cause g c = cause_after (none_more_lines (none_yet _ _) c.in_ok-write_report.ensures.cause) (line_cause c.write_floods.result c.as_line.result c.as_line.ensures c.write_floods.ensures.cause)
+returns-then-settings-clause-cause g c = cause_after (none_more_lines (none_yet _ _) c.in_ok-write_report.ensures.cause) (line_cause c.write_floods.result c.map_err.result c.map_err.ensures.cases c.write_floods.ensures.cause)
 
 pub returns-then-settings-clause-memory : goal.returns-then-settings-clause-memory
-returns-then-settings-clause-memory g c = λ none. line_memory c.write_floods.result c.as_line.result c.as_line.ensures none
+returns-then-settings-clause-memory g c = λ none. line_memory c.write_floods.result c.map_err.result c.map_err.ensures.cases none
 
 pub returns-then-settings-clause-stopped : goal.returns-then-settings-clause-stopped
 unfolding report_form
@@ -37,7 +37,7 @@ returns-then-settings-clause-stopped g c =
     let line = form_of c.args.writer.now c.args.problem.now in
     let sequences = solutions c.args.search.now in
     let limit = c.args.settings.now.limit in
-    more_on_err c.as_line.result
+    more_on_err c.map_err.result
     (stopped_after line sequences limit (solutions c.write_report.new.search) (tail_form (if nat_le limit (length sequences) then Limit else End) (min limit (length sequences))) (floods_form c.floods.result)
     c.in_ok-write_report.ensures.left c.in_ok-write_report.ensures.written.done)
-    (line_writes c.write_floods.result c.as_line.result c.as_line.ensures c.write_floods.ensures.written).failed
+    (line_writes c.write_floods.result c.map_err.result c.map_err.ensures.cases c.write_floods.ensures.written).failed

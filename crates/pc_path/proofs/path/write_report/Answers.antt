@@ -32,7 +32,7 @@ write-requires g c =
 pub returns-in-None-clause-written : goal.returns-in-None-clause-written
 returns-in-None-clause-written g c =
     last_call (left_as (left_over _ _ _ _ _ c.loop-count-test.true c.in-None.ensures.found.0 (omega arith)) c.loop-count.invariant.0)
-    (line_writes c.write_tail.result c.as_line.result c.as_line.ensures c.write_tail.ensures.written)
+    (line_writes c.write_tail.result c.map_err.result c.map_err.ensures.cases c.write_tail.ensures.written)
 
 pub returns-in-None-clause-searched : goal.returns-in-None-clause-searched
 returns-in-None-clause-searched g c =
@@ -41,14 +41,14 @@ returns-in-None-clause-searched g c =
 
 pub returns-in-None-clause-left : goal.returns-in-None-clause-left
 returns-in-None-clause-left g c =
-    on_ok c.as_line.result (c.in-None.ensures.found.1 ∙ sym (drop_over (solutions c.args.search.now) c.loop-count.count c.args.limit (sym c.loop-count.invariant.5 ∙ c.in-None.ensures.found.0) (omega (arith, c.loop-count-test.true))))
+    on_ok c.map_err.result (c.in-None.ensures.found.1 ∙ sym (drop_over (solutions c.args.search.now) c.loop-count.count c.args.limit (sym c.loop-count.invariant.5 ∙ c.in-None.ensures.found.0) (omega (arith, c.loop-count-test.true))))
 
 pub returns-in-None-clause-stopped : goal.returns-in-None-clause-stopped
 returns-in-None-clause-stopped g c =
     let line = form_of c.args.writer.now c.args.problem.now in
-    more_on_err c.as_line.result
+    more_on_err c.map_err.result
     (stopped_behind line (solutions c.args.search.now) c.loop-count.count (solutions c.next.new.self) _ (c.in-None.ensures.found.1 ∙ sym c.in-None.ensures.found.0 ∙ c.loop-count.invariant.5) c.loop-count.invariant.7)
-    (line_writes c.write_tail.result c.as_line.result c.as_line.ensures c.write_tail.ensures.written).failed
+    (line_writes c.write_tail.result c.map_err.result c.map_err.ensures.cases c.write_tail.ensures.written).failed
 
 pub returns-in-None-clause-ended : goal.returns-in-None-clause-ended
 returns-in-None-clause-ended g c = λ ok none short.
@@ -103,31 +103,31 @@ loop-count-preserved g c =
 pub returns-clause-written : goal.returns-clause-written
 returns-clause-written g c =
     last_call (left_as (left_full _ c.loop-count.count c.args.limit _ _ c.loop-count-test.false (omega arith) (omega arith)) c.loop-count.invariant.0)
-    (line_writes c.write_tail-2.result c.as_line-2.result c.as_line-2.ensures c.write_tail-2.ensures.written)
+    (line_writes c.write_tail-2.result c.map_err-2.result c.map_err-2.ensures.cases c.write_tail-2.ensures.written)
 
 pub returns-clause-left : goal.returns-clause-left
 returns-clause-left g c =
     let full : c.loop-count.count ≡ c.args.limit = omega (arith, c.loop-count-test.false, c.loop-count.auto.count-end) in
-    on_ok c.as_line-2.result (c.loop-count.invariant.5 ∙ ap (λ n. drop n (solutions c.args.search.now)) full)
+    on_ok c.map_err-2.result (c.loop-count.invariant.5 ∙ ap (λ n. drop n (solutions c.args.search.now)) full)
 
 pub returns-clause-stopped : goal.returns-clause-stopped
 returns-clause-stopped g c =
     let line = form_of c.args.writer.now c.args.problem.now in
-    more_on_err c.as_line-2.result
+    more_on_err c.map_err-2.result
     (stopped_behind line (solutions c.args.search.now) c.loop-count.count (solutions c.loop-count.search) _ c.loop-count.invariant.5 c.loop-count.invariant.7)
-    (line_writes c.write_tail-2.result c.as_line-2.result c.as_line-2.ensures c.write_tail-2.ensures.written).failed
+    (line_writes c.write_tail-2.result c.map_err-2.result c.map_err-2.ensures.cases c.write_tail-2.ensures.written).failed
 
 pub returns-clause-ended : goal.returns-clause-ended
 returns-clause-ended g c = λ ok none short. absurd (omega (arith, short, c.loop-count-test.false, c.loop-count.invariant.6))
 
 pub returns-in-None-clause-cause : goal.returns-in-None-clause-cause
-returns-in-None-clause-cause g c = cause_after c.loop-count.invariant.1 (line_cause c.write_tail.result c.as_line.result c.as_line.ensures c.write_tail.ensures.cause)
+returns-in-None-clause-cause g c = cause_after c.loop-count.invariant.1 (line_cause c.write_tail.result c.map_err.result c.map_err.ensures.cases c.write_tail.ensures.cause)
 
 pub returns-in-None-clause-memory : goal.returns-in-None-clause-memory
-returns-in-None-clause-memory g c = λ none. line_memory c.write_tail.result c.as_line.result c.as_line.ensures none
+returns-in-None-clause-memory g c = λ none. line_memory c.write_tail.result c.map_err.result c.map_err.ensures.cases none
 
 pub returns-clause-cause : goal.returns-clause-cause
-returns-clause-cause g c = cause_after c.loop-count.invariant.1 (line_cause c.write_tail-2.result c.as_line-2.result c.as_line-2.ensures c.write_tail-2.ensures.cause)
+returns-clause-cause g c = cause_after c.loop-count.invariant.1 (line_cause c.write_tail-2.result c.map_err-2.result c.map_err-2.ensures.cases c.write_tail-2.ensures.cause)
 
 pub returns-clause-memory : goal.returns-clause-memory
-returns-clause-memory g c = λ none. line_memory c.write_tail-2.result c.as_line-2.result c.as_line-2.ensures none
+returns-clause-memory g c = λ none. line_memory c.write_tail-2.result c.map_err-2.result c.map_err-2.ensures.cases none
