@@ -8,33 +8,33 @@ use Rattle.std.proofs.lemmas.List.{get_or_past, get_or-take, length-take}
 use Rattle.std.proofs.lemmas.Nat.Bits.{bit_at-zero, bit_at_set_other, bit_at_set_same}
 use Rattle.pc_good_queues.specs.Bits.{AreBitsOf, bytes_for, is_one}
 
--- the bits below a place are the flags from one on, and those from the place on are 0
-pub record HasFlags (flags : List Bool) (first place byte : ℕ) : Type 0 where
-  pub each : (k : ℕ) → (bit_at byte k == 1) ≡ (nat_lt k place && get_or flags (first + k) false)
+-- the bits below one of them are the flags from `first` on, and those from it on are 0
+pub record HasFlags (flags : List Bool) (first bit byte : ℕ) : Type 0 where
+  pub each : (k : ℕ) → (bit_at byte k == 1) ≡ (nat_lt k bit && get_or flags (first + k) false)
 
-one_more : (k place : ℕ) → k ≢ place → nat_lt k place ≡ nat_lt k (place + 1)
-one_more k place other = grind (arith, nat_tests)
+one_more : (k bit : ℕ) → k ≢ bit → nat_lt k bit ≡ nat_lt k (bit + 1)
+one_more k bit other = grind (arith, nat_tests)
 
-module _ (flags : List Bool) (first place byte : ℕ) (so_far : HasFlags flags first place byte) where
-  next_flag : (next : ℕ) → ((k : ℕ) → k ≢ place → bit_at next k ≡ bit_at byte k)
-      → (bit_at next place == 1) ≡ get_or flags (first + place) false → HasFlags flags first (place + 1) next
+module _ (flags : List Bool) (first bit byte : ℕ) (so_far : HasFlags flags first bit byte) where
+  next_flag : (next : ℕ) → ((k : ℕ) → k ≢ bit → bit_at next k ≡ bit_at byte k)
+      → (bit_at next bit == 1) ≡ get_or flags (first + bit) false → HasFlags flags first (bit + 1) next
   next_flag next others here = record { each = each } where
-    each : (k : ℕ) → (bit_at next k == 1) ≡ (nat_lt k (place + 1) && get_or flags (first + k) false)
-    each k = elim (cases_eq k place) [
-      | inl same ↦ subst (λ n. (bit_at next n == 1) ≡ (nat_lt n (place + 1) && get_or flags (first + n) false)) (sym same)
-          (here ∙ sym (ap (λ b. b && get_or flags (first + place) false) (lt-ltb place (place + 1) (omega arith))))
+    each : (k : ℕ) → (bit_at next k == 1) ≡ (nat_lt k (bit + 1) && get_or flags (first + k) false)
+    each k = elim (cases_eq k bit) [
+      | inl same ↦ subst (λ n. (bit_at next n == 1) ≡ (nat_lt n (bit + 1) && get_or flags (first + n) false)) (sym same)
+          (here ∙ sym (ap (λ b. b && get_or flags (first + bit) false) (lt-ltb bit (bit + 1) (omega arith))))
       | inr other ↦ ap (λ n. n == 1) (others k other) ∙ so_far.each k
-          ∙ ap (λ b. b && get_or flags (first + k) false) (one_more k place other)
+          ∙ ap (λ b. b && get_or flags (first + k) false) (one_more k bit other)
     ]
 
-  pub flag_set : place < 8 → get_or flags (first + place) false ≡ true
-      → HasFlags flags first (place + 1) (bit_or byte (1 * 2 ^ place % 2 ^ 8))
-  flag_set low is = next_flag (bit_or byte (1 * 2 ^ place % 2 ^ 8)) (λ k other. bit_at_set_other w8 byte place low k other)
-      (ap (λ n. n == 1) (bit_at_set_same w8 byte place low) ∙ sym is)
+  pub flag_set : bit < 8 → get_or flags (first + bit) false ≡ true
+      → HasFlags flags first (bit + 1) (bit_or byte (1 * 2 ^ bit % 2 ^ 8))
+  flag_set low is = next_flag (bit_or byte (1 * 2 ^ bit % 2 ^ 8)) (λ k other. bit_at_set_other w8 byte bit low k other)
+      (ap (λ n. n == 1) (bit_at_set_same w8 byte bit low) ∙ sym is)
 
-  pub flag_left : get_or flags (first + place) false ≡ false → HasFlags flags first (place + 1) byte
+  pub flag_left : get_or flags (first + bit) false ≡ false → HasFlags flags first (bit + 1) byte
   flag_left is = next_flag byte (λ k other. refl)
-      (so_far.each place ∙ ap (λ b. nat_lt place place && b) is ∙ both_false (nat_lt place place) ∙ sym is)
+      (so_far.each bit ∙ ap (λ b. nat_lt bit bit && b) is ∙ both_false (nat_lt bit bit) ∙ sym is)
     where
       both_false : (b : Bool) → (b && false) ≡ false
       both_false true = refl

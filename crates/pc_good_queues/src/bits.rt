@@ -32,13 +32,13 @@ fn byte_from(answers: &Answers, count: u32, first: u32) -> u8
     requires fit { IsFit (problem_of answers.now) }
     requires all { count ≡ length (queues (elements_of (problem_of answers.now).pattern)) }
     requires low { first ≤ 10000000 }
-    ensures { (place : ℕ) → place < 8
-        → (bit_at result place == 1) ≡ slice_index_or (flags_of (problem_of answers.now)) (first + place) false }
+    ensures { (bit : ℕ) → bit < 8
+        → (bit_at result bit == 1) ≡ slice_index_or (flags_of (problem_of answers.now)) (first + bit) false }
 {
     let mut byte = 0u8;
-    for place in 0..8 {
-        if is_good_one(answers, count, first + place) {
-            byte |= 1 << place;
+    for bit in 0..8 {
+        if is_good_one(answers, count, first + bit) {
+            byte |= 1 << bit;
         }
     }
     byte
