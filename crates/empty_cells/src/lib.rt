@@ -3,6 +3,7 @@
 
 mod columns;
 mod empties;
+mod forms;
 mod hash;
 mod pivots;
 mod placed;

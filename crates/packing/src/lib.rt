@@ -3,6 +3,7 @@
 #![tactic(auto)]
 
 mod decided;
+mod forms;
 pub mod laws;
 mod memory;
 mod search;

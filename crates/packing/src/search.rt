@@ -8,8 +8,11 @@ ghost use Rattle.empty_cells.specs.Stacks.{StacksOver, StacksPiece, TakesPiece};
 ghost use Rattle.empty_cells.specs.SupplyWords.{supply_of};
 
 use crate::decided::{Decided, recalled};
+use crate::forms::{any_of, tries};
 use Span::{AllFour, First, FirstThree, FirstTwo, Second, SecondTwo, Third};
-use empty_cells::{Empties, Span, SupplyWord, allowed, has_row, hash_of, lowest_row, without_row};
+use empty_cells::{
+    Empties, Span, SupplyWord, allowed, forms_of, has_row, hash_of, lowest_row, without_row,
+};
 use fact_table::FactTable;
 use srs::Piece;
 
@@ -26,19 +29,6 @@ macro_rules! some_row {
             rows = without_row(rows, $row);
         }
         false
-    }};
-}
-
-// Whether one of these calls answers true. The calls after it are not made.
-macro_rules! any_of {
-    ($last:expr) => {
-        $last
-    };
-    ($first:expr, $($others:expr),+) => {{
-        if $first {
-            return true;
-        }
-        any_of!($($others),+)
     }};
 }
 
@@ -160,8 +150,7 @@ fn stacks_i(cells: &Empties, y: u8, supply: SupplyWord, known: &mut FactTable<De
     ensures { IsTrue result
         ↔ StacksPiece (supply_of supply) (empty_cells cells.now) 0 y I }
 {
-    first_one(cells, y, AllFour, supply, known)
-        || first_four(cells, y, First, First, First, First, supply, known)
+    forms_of!(I, any_of, tries, cells, y, supply, known)
 }
 
 /// Whether an L can cover the first cell so that the supply fills what is left.
@@ -171,12 +160,7 @@ fn stacks_l(cells: &Empties, y: u8, supply: SupplyWord, known: &mut FactTable<De
     ensures { IsTrue result
         ↔ StacksPiece (supply_of supply) (empty_cells cells.now) 0 y L }
 {
-    any_of!(
-        first_two(cells, y, FirstThree, Third, supply, known),
-        first_three(cells, y, FirstTwo, First, First, supply, known),
-        first_two(cells, y, First, FirstThree, supply, known),
-        stacks_three(cells, y, 0, Second, Second, FirstTwo, supply, known)
-    )
+    forms_of!(L, any_of, tries, cells, y, supply, known)
 }
 
 /// Whether an O can cover the first cell so that the supply fills what is left.
@@ -186,7 +170,7 @@ fn stacks_o(cells: &Empties, y: u8, supply: SupplyWord, known: &mut FactTable<De
     ensures { IsTrue result
         ↔ StacksPiece (supply_of supply) (empty_cells cells.now) 0 y O }
 {
-    first_two(cells, y, FirstTwo, FirstTwo, supply, known)
+    forms_of!(O, any_of, tries, cells, y, supply, known)
 }
 
 /// Whether a Z can cover the first cell so that the supply fills what is left.
@@ -196,8 +180,7 @@ fn stacks_z(cells: &Empties, y: u8, supply: SupplyWord, known: &mut FactTable<De
     ensures { IsTrue result
         ↔ StacksPiece (supply_of supply) (empty_cells cells.now) 0 y Z }
 {
-    stacks_two(cells, y, 0, SecondTwo, FirstTwo, supply, known)
-        || first_three(cells, y, First, FirstTwo, Second, supply, known)
+    forms_of!(Z, any_of, tries, cells, y, supply, known)
 }
 
 /// Whether a T can cover the first cell so that the supply fills what is left.
@@ -207,12 +190,7 @@ fn stacks_t(cells: &Empties, y: u8, supply: SupplyWord, known: &mut FactTable<De
     ensures { IsTrue result
         ↔ StacksPiece (supply_of supply) (empty_cells cells.now) 0 y T }
 {
-    any_of!(
-        first_two(cells, y, FirstThree, Second, supply, known),
-        first_three(cells, y, First, FirstTwo, First, supply, known),
-        stacks_two(cells, y, 0, Second, FirstThree, supply, known),
-        stacks_three(cells, y, 0, Second, FirstTwo, Second, supply, known)
-    )
+    forms_of!(T, any_of, tries, cells, y, supply, known)
 }
 
 /// Whether a J can cover the first cell so that the supply fills what is left.
@@ -222,12 +200,7 @@ fn stacks_j(cells: &Empties, y: u8, supply: SupplyWord, known: &mut FactTable<De
     ensures { IsTrue result
         ↔ StacksPiece (supply_of supply) (empty_cells cells.now) 0 y J }
 {
-    any_of!(
-        first_two(cells, y, FirstThree, First, supply, known),
-        first_three(cells, y, First, First, FirstTwo, supply, known),
-        stacks_two(cells, y, 0, Third, FirstThree, supply, known),
-        first_three(cells, y, FirstTwo, Second, Second, supply, known)
-    )
+    forms_of!(J, any_of, tries, cells, y, supply, known)
 }
 
 /// Whether an S can cover the first cell so that the supply fills what is left.
@@ -237,8 +210,7 @@ fn stacks_s(cells: &Empties, y: u8, supply: SupplyWord, known: &mut FactTable<De
     ensures { IsTrue result
         ↔ StacksPiece (supply_of supply) (empty_cells cells.now) 0 y S }
 {
-    first_two(cells, y, FirstTwo, SecondTwo, supply, known)
-        || stacks_three(cells, y, 0, Second, FirstTwo, First, supply, known)
+    forms_of!(S, any_of, tries, cells, y, supply, known)
 }
 
 /// Whether a span in a row from `floor` on can cover the first cell so that the supply fills what is left.

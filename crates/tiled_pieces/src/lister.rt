@@ -18,7 +18,9 @@ use crate::dead::{Dead, is_dead};
 use crate::list::TilingList;
 use crate::listing::Listing;
 use Span::{AllFour, First, FirstThree, FirstTwo, Second, SecondTwo, Third};
-use empty_cells::{Empties, Shifted, Span, SupplyWord, allowed, hash_of, lowest_row, without_row};
+use empty_cells::{
+    Empties, Shifted, Span, SupplyWord, allowed, forms_of, hash_of, lowest_row, without_row,
+};
 use fact_table::FactTable;
 use srs::Piece;
 use std::alloc::Global;
@@ -45,6 +47,27 @@ macro_rules! each_row {
             rows = without_row(rows, $row);
         }
     }};
+}
+
+// All these calls, one after the other.
+macro_rules! all_of {
+    ($($call:expr),+) => {{ $($call;)+ }};
+}
+
+// The tilings in which a piece takes a form.
+macro_rules! lays {
+    ($lister:expr, $cover:expr, $piece:expr, $cells:expr; $a:ident) => {
+        $lister.stacks_one($cover, $piece, $cells, 0, $a)
+    };
+    ($lister:expr, $cover:expr, $piece:expr, $cells:expr; $a:ident, $b:ident) => {
+        $lister.stacks_two($cover, $piece, $cells, 0, $a, $b)
+    };
+    ($lister:expr, $cover:expr, $piece:expr, $cells:expr; $a:ident, $b:ident, $c:ident) => {
+        $lister.stacks_three($cover, $piece, $cells, 0, $a, $b, $c)
+    };
+    ($lister:expr, $cover:expr, $piece:expr, $cells:expr; $a:ident, $b:ident, $c:ident, $d:ident) => {
+        $lister.stacks_four($cover, $piece, $cells, 0, $a, $b, $c, $d)
+    };
 }
 
 impl Lister {
@@ -210,37 +233,13 @@ impl Lister {
     {
         let cells = &cover.cells;
         match piece {
-            Piece::I => {
-                self.stacks_one(cover, Piece::I, cells, 0, AllFour);
-                self.stacks_four(cover, Piece::I, cells, 0, First, First, First, First);
-            }
-            Piece::L => {
-                self.stacks_two(cover, Piece::L, cells, 0, FirstThree, Third);
-                self.stacks_three(cover, Piece::L, cells, 0, FirstTwo, First, First);
-                self.stacks_two(cover, Piece::L, cells, 0, First, FirstThree);
-                self.stacks_three(cover, Piece::L, cells, 0, Second, Second, FirstTwo);
-            }
-            Piece::O => self.stacks_two(cover, Piece::O, cells, 0, FirstTwo, FirstTwo),
-            Piece::Z => {
-                self.stacks_two(cover, Piece::Z, cells, 0, SecondTwo, FirstTwo);
-                self.stacks_three(cover, Piece::Z, cells, 0, First, FirstTwo, Second);
-            }
-            Piece::T => {
-                self.stacks_two(cover, Piece::T, cells, 0, FirstThree, Second);
-                self.stacks_three(cover, Piece::T, cells, 0, First, FirstTwo, First);
-                self.stacks_two(cover, Piece::T, cells, 0, Second, FirstThree);
-                self.stacks_three(cover, Piece::T, cells, 0, Second, FirstTwo, Second);
-            }
-            Piece::J => {
-                self.stacks_two(cover, Piece::J, cells, 0, FirstThree, First);
-                self.stacks_three(cover, Piece::J, cells, 0, First, First, FirstTwo);
-                self.stacks_two(cover, Piece::J, cells, 0, Third, FirstThree);
-                self.stacks_three(cover, Piece::J, cells, 0, FirstTwo, Second, Second);
-            }
-            Piece::S => {
-                self.stacks_two(cover, Piece::S, cells, 0, FirstTwo, SecondTwo);
-                self.stacks_three(cover, Piece::S, cells, 0, Second, FirstTwo, First);
-            }
+            Piece::I => forms_of!(I, all_of, lays, self, cover, Piece::I, cells),
+            Piece::L => forms_of!(L, all_of, lays, self, cover, Piece::L, cells),
+            Piece::O => forms_of!(O, all_of, lays, self, cover, Piece::O, cells),
+            Piece::Z => forms_of!(Z, all_of, lays, self, cover, Piece::Z, cells),
+            Piece::T => forms_of!(T, all_of, lays, self, cover, Piece::T, cells),
+            Piece::J => forms_of!(J, all_of, lays, self, cover, Piece::J, cells),
+            Piece::S => forms_of!(S, all_of, lays, self, cover, Piece::S, cells),
         }
     }
 
