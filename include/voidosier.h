@@ -106,8 +106,8 @@ uint8_t voidosier_run(const char *words, size_t words_size,
  * The five numbers are written whatever the status. It is one of:
  *
  *   VOIDOSIER_DONE           bits has the bits of all queues, and err nothing.
- *   VOIDOSIER_FAULT          err has the line that `percent` writes of the first fault, and bits nothing. The numbers
- *                            of queues are 0. No flood was made.
+ *   VOIDOSIER_FAULT          err has the line that the program writes of the first fault, and bits nothing. The
+ *                            numbers of queues are 0. No flood was made.
  *   VOIDOSIER_NO_ROOM        the bits take more bytes than bits_room. bits and err have nothing. No flood was made,
  *                            so a call with a room of 0 bytes tells by queues how much is needed, at little cost.
  *   VOIDOSIER_NO_MEMORY      bits and err have nothing. The numbers of queues are 0.
@@ -150,8 +150,8 @@ uint8_t voidosier_good_queues(const char *words, size_t words_size,
  * The five numbers are written whatever the status. It is one of:
  *
  *   VOIDOSIER_DONE           placements has the numbers of count solutions, and err nothing.
- *   VOIDOSIER_FAULT          err has the line that `path` writes of the first fault. A fault of --after counts as well
- *                            where after is given.
+ *   VOIDOSIER_FAULT          err has the line that the program writes of the first fault. A fault of --after counts as
+ *                            well where after is given.
  *   VOIDOSIER_NO_ROOM        placements is too small for one solution. VOIDOSIER_SOLUTION_ROOM bytes are enough.
  *   VOIDOSIER_NO_MEMORY      malloc gave no memory.
  *   VOIDOSIER_NO_WORDS       the words are no words.
