@@ -10,7 +10,7 @@ use Rattle.hold_queue.specs.declared.hold.Hold.TheVariants.{Allowed}
 use Rattle.hold_queue.specs.AtHand.{count_held}
 use Rattle.hold_queue.specs.Family.{has_set}
 use Rattle.hold_queue.specs.Permits.{Permits}
-use Rattle.hold_queue.specs.States.{in_progress, rests, drawn_by, family_at, states_permit, IsRemainder, IsHeldFamily, AreStatesAfter}
+use Rattle.hold_queue.specs.States.{in_progress, drawn_by, family_at, states_permit, IsRemainder, IsRoomy, IsHeldFamily, AreStatesAfter}
 use Rattle.hold_queue.proofs.AtHandLemmas.{permits-held}
 use Rattle.hold_queue.proofs.DrawnRests.{begins-none}
 use Rattle.hold_queue.proofs.FamilyBits.{has_set-empty}
@@ -61,8 +61,9 @@ module _ (elements : List Element) (start : Option Piece) (states held_states : 
       (λ h. let is = states_permit-from elements Allowed start states played pieces h in onto pieces is.held is.queue is.rest is.permitted)
       (λ h. let is = states_permit-from elements Allowed start held_states played pieces h in back pieces is.held is.queue is.rest is.permitted)
 
-  some_left : (held : Option Piece) (set : ℕ) → set < 128 → has_set (family_at held_states held) set ≡ true → 0 < length (rests elements (drawn_by start played held) set)
-  some_left held set within has = search rules
+  some_left : (held : Option Piece) → IsRoomy elements (drawn_by start played held) (family_at held_states held)
+  some_left None = record { each = λ set within has. let lacks = none set within in cc (lacks, has) }
+  some_left (Some piece) = (at piece).roomy
 
   fits : (held : Option Piece) (set : ℕ) → set < 128 → has_set (family_at held_states held) set ≡ true → count_held start ≤ played + count_held held
   fits held set within has = search (rules, count_held-small)

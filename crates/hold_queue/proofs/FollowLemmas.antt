@@ -136,8 +136,10 @@ pub follows-start : (elements : List Element) (hold : Hold) (start : Option Piec
 follows-start elements hold start some = record {
   permits_same =
       search (rules, one_truth, some_permits-decides, states_permit-to, first-there, start_rests, states_permit-from, first, set);
-  some = search (rules, set, first, start_rests);
-  drawn_fits = search (rules, set, first);
+  stands = record {
+    roomy = λ held. record { each = search (rules, set, first, start_rests) };
+    drawn_fits = search (rules, set, first);
+  };
 }
   where
     start_rests : rests elements (drawn_by start 0 start) 0 ≡ queues elements

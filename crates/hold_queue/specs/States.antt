@@ -144,7 +144,4 @@ pub record AreStatesAfter (elements : List Element) (hold : Hold) (start : Optio
   pub permits_same : (pieces : List Piece)
       → some_permits hold (queues elements) start (played ++ pieces)
       ≡ states_permit elements hold start states (length played) pieces
-  pub some : (held : Option Piece) (set : ℕ) → set < 128 → has_set (family_at states held) set ≡ true
-      → 0 < length (rests elements (drawn_by start (length played) held) set)
-  pub drawn_fits : (held : Option Piece) (set : ℕ) → set < 128 → has_set (family_at states held) set ≡ true
-      → count_held start ≤ length played + count_held held
+  pub stands : Stands elements start states (length played)
