@@ -15,7 +15,7 @@ use Rattle.hold_queue.specs.declared.family.Family.{Family}
 use Rattle.hold_queue.specs.Family.{has_set, with_piece, any_below, after_draw, IsDrawn}
 use Rattle.hold_queue.specs.States.{in_progress, undrawn, rests, IsRemainder, IsRoomy}
 use Rattle.hold_queue.proofs.DrawLemmas.{any_below-from, any_below-to}
-use Rattle.hold_queue.proofs.RestLemmas.{stands, rests-done, set_after}
+use Rattle.hold_queue.proofs.RestLemmas.{in_element, rests-done, set_after}
 
 -- a set before a draw, and the set after it
 pub record Moves (draw : Option Draw) (piece : Piece) (before : Family) (set : ℕ) : Type 0 where
@@ -195,7 +195,7 @@ rest-on elements drawn next piece before after is_drawn counts queue rest = go (
     go : (o : Option Draw) → in_progress elements drawn ≡ o → IsRemainder elements next after queue
     go None is = search (rules, Contains-cases, rests-done, Contains-none)
     go (Some d) is =
-        let at = stands elements drawn d is in
+        let at = in_element elements drawn d is in
         let parts = begins-from (undrawn d.element.set rest.drawn_set) at.more at.later piece queue (subst (λ qs. Contains qs (piece ∷ queue)) (at.now rest.drawn_set) rest.there) in
         let free = undrawn-from d.element.set rest.drawn_set piece parts.0 in
         search (rules, moves-on)
@@ -205,7 +205,7 @@ pub rest-back : (elements : List Element) (drawn next : ℕ) (piece : Piece) (be
     → (queue : List Piece) → IsRemainder elements next after queue → IsRemainder elements drawn before (piece ∷ queue)
 rest-back elements drawn next piece before after is_drawn counts queue rest =
     let m = moves-back (in_progress elements drawn) piece before after is_drawn rest.drawn_set rest.within rest.has in
-    let at = stands elements drawn m.from m.is in
+    let at = in_element elements drawn m.from m.is in
     let here = subst (λ n. Contains (rests elements n rest.drawn_set) queue) (counts m.drawn_set m.within m.has) rest.there in
     let own = subst (λ s. Contains (rests elements (drawn + 1) s) queue) (sym m.next) here in
     let tail = subst (λ qs. Contains qs queue) (at.next m.drawn_set piece m.within m.lacks) own in
@@ -222,7 +222,7 @@ pub roomy-on : (elements : List Element) (drawn next : ℕ) (piece : Piece) (bef
 roomy-on elements drawn next piece before after is_drawn counts room = record {
   each = λ set within has.
       let m = moves-back (in_progress elements drawn) piece before after is_drawn set within has in
-      let at = stands elements drawn m.from m.is in
+      let at = in_element elements drawn m.from m.is in
       let whole = subst (λ qs. 0 < length qs) (at.now m.drawn_set) (room.each m.drawn_set m.within m.has) in
       let some = tails-some (undrawn m.from.element.set m.drawn_set) at.more at.later piece (count_undrawn m.from.element.set m.drawn_set)
       (undrawn-to m.from.element.set m.drawn_set piece m.inside m.lacks) whole in

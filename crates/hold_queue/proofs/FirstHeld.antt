@@ -17,7 +17,7 @@ use Rattle.hold_queue.proofs.FamilyBits.{has_set-empty}
 use Rattle.hold_queue.proofs.FollowLemmas.{states_permit-from, states_permit-to}
 use Rattle.hold_queue.proofs.HoldingLemmas.{IsNone}
 use Rattle.hold_queue.proofs.PermitsTest.{permits-decides}
-use Rattle.hold_queue.proofs.RestLemmas.{stands}
+use Rattle.hold_queue.proofs.RestLemmas.{in_element}
 use Rattle.hold_queue.proofs.StepLemmas.{count_held-small}
 
 to_hand : (piece : Piece) (queue pieces : List Piece) → Permits Allowed (piece ∷ queue) None pieces → Permits Allowed queue (Some piece) pieces
@@ -40,7 +40,7 @@ module _ (elements : List Element) (start : Option Piece) (states held_states : 
       → Permits Allowed queue held pieces → states_permit elements Allowed start held_states played pieces ≡ true
   onto pieces (Some first) queue rest permitted = search (rules, states_permit-to)
   onto pieces None [] rest permitted =
-      let left = stands elements (drawn_by start played None) draw more in
+      let left = in_element elements (drawn_by start played None) draw more in
       absurd (begins-none _ left.more left.later (subst (λ qs. Contains qs []) (left.now rest.drawn_set) rest.there))
   onto pieces None (first ∷ queue) rest permitted =
       states_permit-to elements Allowed start held_states played pieces

@@ -42,7 +42,7 @@ abbrev pub set_after : Draw → ℕ → Piece → ℕ
 set_after draw drawn_set piece = cond draw.is_last 0 (drawn_set + set_of piece)
 
 -- some pieces of the element in progress are still to be chosen
-pub record Stands (elements : List Element) (drawn : ℕ) (draw : Draw) : Type 0 where
+pub record IsInElement (elements : List Element) (drawn : ℕ) (draw : Draw) : Type 0 where
   pub more : ℕ
   pub later : List Element
   pub now : (drawn_set : ℕ) → rests elements drawn drawn_set ≡ tails (undrawn draw.element.set drawn_set) (suc more) later
@@ -52,9 +52,9 @@ pub record Stands (elements : List Element) (drawn : ℕ) (draw : Draw) : Type 0
 abbrev drawing : Element → ℕ → Draw
 drawing element drawn = record { element = element; is_last = drawn + 1 == element.chosen }
 
-stands_here : (e : Element) (elements : List Element) (drawn : ℕ) → drawn < e.chosen → Stands (e ∷ elements) drawn (drawing e drawn)
+in_element_here : (e : Element) (elements : List Element) (drawn : ℕ) → drawn < e.chosen → IsInElement (e ∷ elements) drawn (drawing e drawn)
 unfolding rests
-stands_here e elements drawn within = record {
+in_element_here e elements drawn within = record {
   more = e.chosen - drawn - 1;
   later = elements;
   now = λ drawn_set. rw (lt-ltb drawn e.chosen within) (ap (λ n. tails (undrawn e.set drawn_set) n elements) (omega arith));
@@ -69,15 +69,15 @@ stands_here e elements drawn within = record {
   ];
 }
 
-stands_later : (e : Element) (elements : List Element) (drawn : ℕ) (draw : Draw) → e.chosen ≤ drawn → Stands elements (drawn - e.chosen) draw → Stands (e ∷ elements) drawn draw
+in_element_later : (e : Element) (elements : List Element) (drawn : ℕ) (draw : Draw) → e.chosen ≤ drawn → IsInElement elements (drawn - e.chosen) draw → IsInElement (e ∷ elements) drawn draw
 unfolding rests
-stands_later e elements drawn draw past stands = search (rules, stands, le-ltb)
+in_element_later e elements drawn draw past later = search (rules, later, le-ltb)
 
-pub stands : (elements : List Element) (drawn : ℕ) (draw : Draw) → in_progress elements drawn ≡ Some draw → Stands elements drawn draw
+pub in_element : (elements : List Element) (drawn : ℕ) (draw : Draw) → in_progress elements drawn ≡ Some draw → IsInElement elements drawn draw
 unfolding in_progress
-stands [] drawn draw is = cc
-stands (e ∷ elements) drawn draw is =
-    search (rules, cases_lt, drawing, lt-ltb, stands_here, le-ltb, stands_later, (stands elements))
+in_element [] drawn draw is = cc
+in_element (e ∷ elements) drawn draw is =
+    search (rules, cases_lt, drawing, lt-ltb, in_element_here, le-ltb, in_element_later, (in_element elements))
 
 -- where all elements are drawn, nothing is left
 pub rests-done : (elements : List Element) (drawn drawn_set : ℕ) → in_progress elements drawn ≡ None → rests elements drawn drawn_set ≡ [] ∷ []

@@ -13,7 +13,7 @@ use Rattle.hold_queue.specs.Family.{has_set, IsDrawn}
 use Rattle.hold_queue.specs.Permits.{Way, plain, exchange, first_hold, last}
 use Rattle.hold_queue.specs.States.{in_progress, rests, drawn_by, family_at, IsRemainder, IsRoomy, CameBy, IsNextFamily, FollowsHeld, IsHeldFamily, Stands}
 use Rattle.hold_queue.specs.AtHand.{count_held}
-use Rattle.hold_queue.proofs.RestLemmas.{stands, rests-done}
+use Rattle.hold_queue.proofs.RestLemmas.{in_element, rests-done}
 use Rattle.hold_queue.proofs.DrawnRests.{moves-back, rest-on, rest-back, roomy-on, begins-none}
 
 -- the sets of two families
@@ -114,7 +114,7 @@ module _ (elements : List Element) (start : Option Piece) (states : List ℕ) (p
       goes queue held_before before (inr same) rest =
           let held_rest = subst (λ h. IsRemainder elements (drawn_by start played h) (family_at states h) before) same.1 rest in
           let ended = subst (λ q. IsRemainder elements (drawn_by start played (Some piece)) (family_at states (Some piece)) q) same.0 held_rest in
-          let at = stands elements (drawn_by start played (Some piece)) draw is in
+          let at = in_element elements (drawn_by start played (Some piece)) draw is in
           absurd (begins-none _ at.more at.later (subst (λ qs. Contains qs []) (at.now ended.drawn_set) ended.there))
 
   -- nothing is held, and the queue is used up where a piece was held
