@@ -1,8 +1,8 @@
 -- How many pieces of each kind may still be played.
 use Rattle.std.specs.Prelude.{ℕ, ◌+◌, ◌-◌, ◌==◌, if◌then◌else◌, min, Option, Some, List, map, count_by}
-use Rattle.std.specs.Int.{bit_at}
 use Rattle.srs.specs.declared.piece.Piece.{Piece}
 use Rattle.srs.specs.Piece.{all_pieces, piece_code}
+use Rattle.queue_pattern.specs.Queues.{is_in}
 use Rattle.hold_queue.specs.declared.hold.Hold.{Hold}
 use Rattle.hold_queue.specs.declared.hold.Hold.TheVariants.{Allowed}
 use Rattle.hold_queue.specs.QueueSet.{QueuesInPlay}
@@ -16,7 +16,7 @@ from_hold _ _ piece = 0
 -- start, less those that were played
 abbrev pub supply_of : QueuesInPlay → ℕ → Piece → ℕ
 supply_of line left piece =
-    min left (count_by (λ element. bit_at element.set (piece_code piece - 1) == 1) line.elements
+    min left (count_by (λ element. is_in piece element.set) line.elements
     + from_hold line.hold line.held piece
     - count_by (λ played. piece_code played == piece_code piece) line.played)
 
