@@ -27,15 +27,16 @@ Permits hold queue held (piece ∷ pieces) =
 abbrev pub SomePermits : Hold → List (List Piece) → Option Piece → List Piece → Type 0
 SomePermits hold queues held pieces = (queue : List Piece) × Contains queues queue × Permits hold queue held pieces
 
--- the test of `Permits`: some way plays the first piece and leaves a queue and a held piece that permit the rest
+-- both are the same piece
 abbrev pub same_piece : Piece → Piece → Bool
 same_piece p q = piece_code p == piece_code q
 
--- by the first piece of the queue, or by the second with the first held, or by the held piece
+-- the second piece of the queue is played, and the first is held: the list is the queue behind its first piece
 abbrev pub plays_second : List Piece → Piece → (List Piece → Bool) → Bool
 plays_second [] piece goes_on = false
 plays_second (second ∷ queue) piece goes_on = same_piece second piece && goes_on queue
 
+-- with hold: the held piece is played, or the second of the queue if none is held; its first, if any, is held then
 abbrev pub plays_held : Hold → List Piece → Option Piece → Piece → (List Piece → Option Piece → Bool) → Bool
 plays_held Avoided queue held piece goes_on = false
 plays_held Allowed [] None piece goes_on = false
@@ -43,10 +44,12 @@ plays_held Allowed [] (Some kept) piece goes_on = same_piece kept piece && goes_
 plays_held Allowed (first ∷ queue) (Some kept) piece goes_on = same_piece kept piece && goes_on queue (Some first)
 plays_held Allowed (first ∷ queue) None piece goes_on = plays_second queue piece (λ rest. goes_on rest (Some first))
 
+-- the first piece of the queue is played
 abbrev pub plays_first : List Piece → Piece → (List Piece → Bool) → Bool
 plays_first [] piece goes_on = false
 plays_first (first ∷ queue) piece goes_on = same_piece first piece && goes_on queue
 
+-- the test of `Permits`: no piece is to be played, or some way plays the first and leaves what permits the rest
 unfoldable pub permits : Hold → List Piece → Option Piece → List Piece → Bool
 permits hold queue held [] = true
 permits hold queue held (piece ∷ pieces) =
