@@ -1,3 +1,2 @@
 -- Lemmas that the crates above cite.
 pub use Rattle.combo.proofs.LongestLemmas.{one_longest}
-pub use Rattle.combo.proofs.LongestExists.{longest-exists}

@@ -119,7 +119,7 @@ fn open_gaps(well: &Well, height: u8) -> u8
 }
 
 /// No run in the field is longer than this. `None` if the rows below the height of column 0 have other gaps, or the
-/// outermost columns end at other heights.
+/// outermost columns end at other heights. No clause says when it is `None`: a bound only cuts.
 #[tactic(auto, using(crate::proofs::MiddleLemmas::most_by_room))]
 pub fn most_between_walls(well: &Well) -> Option<u8>
     ensures { IfSome result (λ most. (table : Table) (mode : DropMode) (run : List Placement)

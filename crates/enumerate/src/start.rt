@@ -273,8 +273,8 @@ impl Search {
         self.notes.tilings.dead.len()
     }
 
-    /// The least solution after the bound; it becomes the bound. `None` if there is none; the bound stays. A call needs
-    /// no memory.
+    /// The least solution after the bound; it becomes the bound. `None` if there is none; the bound stays. A call is
+    /// never refused for want of memory.
     pub fn next<L: Ledger>(&mut self, steps: &mut Steps<L>) -> Option<Sequence>
         ensures list { IsList (view_of self.old) (solutions self.old) }
         ensures found { MatchOption result

@@ -82,7 +82,8 @@ impl Frame {
         }
     }
 
-    /// The same, without a question where each of the places is known to leave a tiling.
+    /// Whether there is something to do at a placement. No question is asked if each of the places is known to leave a
+    /// tiling.
     #[inline(always)]
     fn leads_on(&self, placement: &Placement, tilings: &mut Tilings) -> bool
         requires lockable { IsTrue (may_lock (filled self.now.setup.well) placement.now.piece placement.now) }

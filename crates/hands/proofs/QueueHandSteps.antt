@@ -1,5 +1,5 @@
 -- The hands of queues, one after the other, and how a hand is read from two lists.
-use Rattle.std.proofs.Common.{◌≡◌, ℕ, ◌+◌, ◌-◌, ◌*◌, ◌/◌, ◌%◌, ◌^◌, ◌<◌, ◌≤◌, List, [], ◌∷◌, ◌++◌, Option, length, length-append, get_or, refl, ap, sym, subst, ◌∙◌, arith, inl, inr}
+use Rattle.std.proofs.Common.{◌≡◌, ℕ, ◌+◌, ◌-◌, ◌*◌, ◌/◌, ◌%◌, ◌^◌, ◌<◌, ◌≤◌, List, [], ◌∷◌, ◌++◌, Option, length, length-append, get_or, ap, sym, ◌∙◌, arith, inl, inr}
 use Rattle.std.proofs.Math.Nat.{add-mul, div-lt_iff_lt-mul, mod-lt, mul-one, one-mul, zero-mul}
 use Rattle.std.proofs.lemmas.Bool.{cases_lt}
 use Rattle.std.proofs.lemmas.List.{get_or_append_left, get_or_push, get_or_read_under}
@@ -19,14 +19,6 @@ pub record Listing (hold : Hold) (held : Option Piece) (count : ℕ) (elements :
   pub before : number < end + step
   pub each : (i : ℕ) → i < length hands → get_or hands i 0 ≡ queue_hand hold held count elements (i * step)
 
-pub listing-starts : (hold : Hold) (held : Option Piece) (count : ℕ) (elements : List Element) (step end : ℕ) (hands : List ℕ) → 0 < step → hands ≡ []
-    → Listing hold held count elements step end 0 hands
-listing-starts hold held count elements step end hands some none = record {
-  is = sym (zero-mul step) ∙ ap (λ (l : List ℕ). length l * step) (sym none);
-  before = omega (arith, some);
-  each = λ i within. absurd (omega (arith, within, ap length none));
-}
-
 pub listing-more : (hold : Hold) (held : Option Piece) (count : ℕ) (elements : List Element) (step end number hand : ℕ) (hands : List ℕ)
     → number < end → hand ≡ queue_hand hold held count elements number → Listing hold held count elements step end number hands
     → Listing hold held count elements step end (number + step) (hands ++ hand ∷ [])
@@ -44,14 +36,6 @@ listing-more hold held count elements step end number hand hands before hand_is 
   where
     more : (a b : ℕ) → number ≡ a * step → b ≡ a + 1 → number + step ≡ b * step
     more a b is size = (λ i. is i + sym (one-mul step) i) ∙ sym (add-mul a 1 step) ∙ ap (λ n. n * step) (sym size)
-
-pub listing-ends : (hold : Hold) (held : Option Piece) (count : ℕ) (elements : List Element) (step end number : ℕ) (hands : List ℕ)
-    → 0 < step → end ≤ number → Listing hold held count elements step end number hands → AreHandsBy hold held count elements step end hands
-listing-ends hold held count elements step end number hands some past state = record {
-  each = state.each;
-  all = λ k below. (div-lt_iff_lt-mul {k = step} {x = k} {y = length hands} some).1 (subst (λ n. k < n) state.is (omega (arith, below, past)));
-  few = subst (λ n. n < end + step) state.is state.before;
-}
 
 -- the hand at an index of such a list
 hand-there : (hold : Hold) (held : Option Piece) (count : ℕ) (elements : List Element) (step end i result : ℕ) (hands : List ℕ) → AreHandsBy hold held count elements step end hands

@@ -115,8 +115,9 @@ fn allow(allowed: &mut Sums, hold: Hold, weights: &[u16; 8], left: u8, hand: u64
     }
 }
 
-/// What hands allow, and those of which some sum is not in the table. One bit stands for `size` hands side by side, of
-/// which any may allow a sum.
+/// A table that has each hand's bit at all sums that the hand allows, and the bits of hands for which it may not: some
+/// sum of theirs is past the table. One bit stands for `size` hands side by side, of which any may allow a sum. No
+/// clause says that no other bit is set.
 pub fn sums_of(hold: Hold, weights: &[u16; 8], left: u8, hands: &[u64], size: usize) -> (Sums, u64)
     requires few { left ≤ 20 }
     requires some { 0 < size }

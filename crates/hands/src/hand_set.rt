@@ -78,7 +78,7 @@ fn gathered(alloc: Global, numbers: &[u64]) -> Result<Vec<Block>, NoMemory>
 }
 
 impl HandSet {
-    ghost use Rattle.std.specs.Prelude.{◌↔◌, ◌==◌, ◌&&◌, ◌-◌, drop, false, length, not, slice_index, take, IsTrue, OnErr};
+    ghost use Rattle.std.specs.Prelude.{◌↔◌, ◌==◌, ◌&&◌, ◌≤◌, ◌-◌, false, length, not, slice_index, IsTrue, OnErr};
     ghost use Rattle.hands.specs.HandSets.{block_count, has};
 
     /// No hand.
@@ -157,10 +157,9 @@ impl HandSet {
         self.blocks.len()
     }
 
-    /// The hands of its first `count` blocks, and those of the others.
+    /// Some of its hands, in at most `count` blocks, and the others.
     pub fn split_at(&self, alloc: Global, count: usize) -> Result<(HandSet, HandSet), NoMemory>
-        ensures first { IfOk result (λ v. v.0.blocks.items ≡ take count self.now.blocks.items) }
-        ensures others { IfOk result (λ v. v.1.blocks.items ≡ drop count self.now.blocks.items) }
+        ensures few { IfOk result (λ v. block_count v.0 ≤ count) }
         ensures parts { IfOk result (λ v. (hand : ℕ) → has self.now hand ≡ (has v.0 hand || has v.1 hand)) }
         ensures size { IfOk result (λ v. block_count v.1 ≡ block_count self.now - count) }
     {

@@ -128,7 +128,7 @@ impl HandSet {
         Ok(hands)
     }
 
-    /// The same, without a look at the hands if there are none of these.
+    /// The hands from which a piece can't be taken so that one of these rests is left.
     pub fn not_leading_to(
         self,
         alloc: Global,

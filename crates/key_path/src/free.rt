@@ -39,7 +39,7 @@ impl FreeStates {
         }
     }
 
-    /// The state that a key leads to by the Super Rotation System. `None` if the key makes no move.
+    /// The state that a key leads to by these rules. `None` if the key makes no move.
     pub(crate) fn step(&self, rules: &Rules, state: &Placement, key: Key) -> Option<Placement>
         requires kind { state.now.piece ≡ self.now.piece }
         requires free { IsTrue (is_free (filled self.now.well) state.now) }

@@ -35,9 +35,6 @@ pub record IsNumber (is_negative : Bool) (byte : ℕ) (z : ℤ) : Type 0 where
   pub small : is_small_number z ≡ true
   pub form : sign is_negative ++ byte ∷ [] ≡ signed_digit z
 
-abbrev IsOne : Bool → ℤ → Type 0
-IsOne is_negative z = (is_small_number z ≡ true) × (sign is_negative ++ digit_of z ∷ [] ≡ signed_digit z)
-
 pub number_found : (is_negative : Bool) (byte : ℕ) (z : ℤ) → number_with_digit is_negative byte ≡ Some z → IsNumber is_negative byte z
 number_found is_negative byte z found = search (rules, find-Contains, each-contained, eqb-true)
 

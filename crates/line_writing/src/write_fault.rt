@@ -4,7 +4,7 @@ use pc_outside::{Failed, NoMemory};
 /// Why a line was not written, if writing it takes memory.
 #[derive(Clone, Copy, Debug, PartialEq, Eq)]
 pub enum WriteFault {
-    /// A write failed, and its sink counted one more fault.
+    /// A write failed, and the count of faults of its sink rose.
     Failed,
     /// There was not enough memory.
     NoMemory,

@@ -1,5 +1,5 @@
 -- Sets of states as a board of N lanes for each rotation, and when keys lead out of them no more.
-use Rattle.std.specs.Prelude.{◌≡◌, ℕ, ◌<◌, true, ℤ, pos, ◌+ℤ◌}
+use Rattle.std.specs.Prelude.{◌≡◌, ℕ, true, ℤ, pos, ◌+ℤ◌}
 use Rattle.lane_board.specs.Field.{Field, empty_field, union}
 use Rattle.srs.specs.declared.piece.Piece.{Piece}
 use Rattle.srs.specs.declared.rotation.Rotation.{Rotation}
@@ -40,7 +40,3 @@ pub record IsLanesClosed (piece : Piece) (N : ℕ) (free S : Lanes) : Type 0 whe
       empty_field x y ≡ true → S (anticlockwise_of rotation) x y ≡ true
   pub sky : (rotation : Rotation) (x y : ℕ) → sky_board piece (canonical_rotation piece rotation) N (free rotation) x y
       ≡ true → S rotation x y ≡ true
-
--- the cells lie in columns 0 to 9 and rows 0 to N - 1
-pub record LiesOnLanes (N : ℕ) (S : Field) : Type 0 where
-  pub inside : (x y : ℕ) → S x y ≡ true → (x < 10) × (y < N)

@@ -9,6 +9,7 @@ ghost use Rattle.moves.specs.Lanes.{lowest};
 ghost use Rattle.place_sets.specs.States.{states_of};
 ghost use Rattle.low_flood.specs.LanePlaces.{IsCut, lane_pivots, has_own_cells, hard_board};
 
+use crate::lane_kicks::lowest_row;
 use crate::lane_map::{free_lanes, resting_lanes, sky_board};
 use lane_board::LaneBoard;
 use place_sets::Pivots;
@@ -89,11 +90,5 @@ fn rows_over_lane(piece: Piece, rotation: Rotation) -> i8
     ensures low { pos 0 ≤ℤ result }
     ensures high { result ≤ℤ pos 2 }
 {
-    match (piece, rotation) {
-        (_, Rotation::Spawn) => 0,
-        (Piece::I, Rotation::Right) => 2,
-        (Piece::I, Rotation::Reverse) => 0,
-        (Piece::O, Rotation::Left) => 0,
-        _ => 1,
-    }
+    0 - lowest_row(piece, rotation)
 }

@@ -1,5 +1,5 @@
 // Places in low fields under the Super Rotation System: a board of eight or sixteen lanes is enough.
-ghost use Rattle.std.specs.Prelude.{◌≡◌, ◌-◌, ◌≤◌, ◌↔◌, IsTrue};
+ghost use Rattle.std.specs.Prelude.{◌-◌, ◌≤◌, ◌↔◌, IsTrue};
 ghost use Rattle.lane_board.specs.Board.{field_of};
 ghost use Rattle.lane_board.specs.Lanes.{is_lane_count};
 ghost use Rattle.srs.specs.Kick.{srs_table};
@@ -16,7 +16,8 @@ use moves::DropMode;
 use place_sets::Pivots;
 use srs::Piece;
 
-/// The places of a piece with the pivot below row `M`, which is 8, 16 or 24, if all cells lie below row 8.
+/// The places of a piece by the Super Rotation System, with the pivot below row `M`, which is 8, 16 or 24, if all
+/// cells lie below row 8.
 pub fn low_places<const M: usize>(
     filled: &LaneBoard<24>,
     piece: Piece,

@@ -25,7 +25,7 @@ pub fn spawn(piece: Piece) -> Placement
     }
 }
 
-/// The state that a key leads to by the Super Rotation System. `None` if the key makes no move.
+/// The state that a key leads to by these rules. `None` if the key makes no move.
 pub fn step(well: &Well, rules: &Rules, state: &Placement, key: Key) -> Option<Placement>
     requires { IsTrue (is_free (filled well.now) state.now) }
     ensures { result ≡ step_of (table_of rules.now) (filled well.now) state.now key }

@@ -70,9 +70,6 @@ field text is = rw (lt-ltb 0 (length text) is.some, no_blank text is.blanks) ref
 field_is : (text : List ℕ) → is_field text ≡ true → IsField text
 field_is text is = search (rules, and_parts, nat_lt, AllPass-from_list_all, ltb-true, not-true)
 
-abbrev only_fields : Four → Option Four
-only_fields four = if are_fields four then Some four else None
-
 pub divided_is : (line : List ℕ) (four : Four) → four_in line ≡ Some four → IsDivided line four
 unfolding four_in
 divided_is line four is =

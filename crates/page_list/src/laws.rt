@@ -1,5 +1,5 @@
 // Laws of the definitions: functions with an empty body whose contract is the law.
-ghost use Rattle.std.specs.Prelude.{◌≡◌, ◌≤◌, ◌↔◌, ◌⊎◌, ℕ, List, length, All, Ok, Err};
+ghost use Rattle.std.specs.Prelude.{◌≡◌, ◌<◌, ◌≤◌, ◌↔◌, ◌⊎◌, ℕ, List, length, All, Ok, Err};
 ghost use Rattle.std.specs.List.{flat_map};
 ghost use Rattle.fumen_comment.specs.Escape.{HasUnits};
 ghost use Rattle.fumen_digits.specs.declared.dialect.Dialect.{Dialect};
@@ -9,13 +9,15 @@ ghost use Rattle.fumen_pages.specs.Sound.{IsSound};
 ghost use Rattle.fumen_pages.specs.declared.page.Page.{Page};
 ghost use Rattle.fumen_pages.specs.declared.list_fault.ListFault.{ListFault};
 ghost use Rattle.page_list.specs.PrintedLine.{page_form};
-ghost use Rattle.page_list.specs.LineSpelling.{HasLines, IsListFault, Spelled, SpellsPages};
-ghost use Rattle.page_list.specs.ListReading.{lines_of, pages_in};
+ghost use Rattle.page_list.specs.LineSpelling.{HasLines, IsFirstLine, IsListFault, Spelled, SpellsPages};
+ghost use Rattle.page_list.specs.ListReading.{first_line, lines_of, pages_in};
 
 /// The lines of a text follow each other from its start to its end: each is the first line of what comes after the
-/// lines before it. So each text has one list of lines.
+/// lines before it. So each text has one list of lines. `first_line` gives the first line of each text that has a byte.
+#[tactic(auto, using(crate::proofs::FirstLine::first_line_is))]
 pub fn lines_follow_each_other()
-    ensures { (text : List ℕ) (lines : List (List ℕ)) → (lines_of text ≡ lines) ↔ HasLines text lines }
+    ensures lines { (text : List ℕ) (lines : List (List ℕ)) → (lines_of text ≡ lines) ↔ HasLines text lines }
+    ensures first { (text : List ℕ) → 0 < length text → IsFirstLine text (first_line text).0 (first_line text).1 }
 {}
 
 /// A text is read as pages exactly if it spells them, and refused with a fault exactly if it has this fault.

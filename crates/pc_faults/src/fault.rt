@@ -8,7 +8,8 @@ use queue_pattern::PatternFault;
 use well::RowsFault;
 
 /// The first fault of the input. Faults are looked for in this order: the words, the offsets, the source, the field,
-/// the pattern, the number of queues or of pieces, the given sequence or sequences.
+/// the pattern, the number of queues or of pieces, the given sequence or sequences. `encode` looks for faults of its
+/// lines, and then of their pages, after the source.
 #[derive(Clone, Copy, Debug, PartialEq, Eq)]
 pub enum Fault {
     Words(WordsFault),

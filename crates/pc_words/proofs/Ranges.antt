@@ -21,10 +21,6 @@ use Rattle.pc_words.specs.Words.{command_read, field_given, field_request, or_mi
 abbrev IsBetween : ℕ → ℕ → ℕ → Type 0
 IsBetween least most n = (least ≤ n) × (n ≤ most)
 
--- the value of an option, or what stands for it where it is not given
-abbrev given_or : ℕ → (List ℕ → Option ℕ) → Option (List ℕ) → ℕ
-given_or default read value = unwrap_or (option_and_then read value) default
-
 -- the text of the table of offsets
 abbrev text_given : List (List ℕ) → List ℕ
 text_given pairs = unwrap_or (value_of Kicks pairs) []

@@ -24,9 +24,6 @@ same_fields F G same = fun_ext (λ x. fun_ext (same x))
 pub within_both : (F G : Field) → IsWithin F G → IsWithin G F → F ≡ G
 within_both F G there back = same_fields F G (λ x y. same_from_both (F x y) (G x y) (there.has x y) (back.has x y))
 
-abbrev count_of : Bool → ℕ
-count_of b = cond b 1 0
-
 module _ (p q : ℕ → Bool) (more : (k : ℕ) → p k ≡ true → q k ≡ true) where
   -- more pass the weaker test
   count-more : (ks : List ℕ) → count_by p ks ≤ count_by q ks

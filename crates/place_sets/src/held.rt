@@ -15,7 +15,7 @@ pub struct Places {
 }
 
 impl Places {
-    ghost use Rattle.std.specs.Prelude.{◌↔◌, ◌≢◌, ◌==◌, ◌&&◌, false, IsTrue, IfSome, Some, None};
+    ghost use Rattle.std.specs.Prelude.{◌↔◌, ◌≢◌, ◌==◌, ◌&&◌, IsTrue, IfSome, Some, None};
     ghost use Rattle.std.specs.Option.{option_copied};
     ghost use Rattle.srs.specs.Order.{placement_cmp};
     ghost use Rattle.srs.specs.Piece.{piece_code};

@@ -49,7 +49,6 @@ fn words_below(rows: [u8; 4]) -> usize
 
 impl Numbers {
     ghost use Rattle.std.specs.Prelude.{not};
-    ghost use Rattle.srs.specs.Rotation.{rotation_index};
     ghost use Rattle.place_sets.specs.Numbers.{has_number, number_of_state, is_named, states_in};
     ghost use Rattle.place_sets.specs.Numbers.{IsNumberFrom, IsWordAmong};
     ghost use Rattle.place_sets.specs.States.{has_state, states_of};

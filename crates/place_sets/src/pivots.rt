@@ -19,7 +19,7 @@ pub struct Pivots<const N: usize> {
 }
 
 impl<const N: usize> Pivots<N> {
-    ghost use Rattle.std.specs.Prelude.{◌↔◌, MatchOption, ◌≢◌};
+    ghost use Rattle.std.specs.Prelude.{MatchOption, ◌≢◌};
     ghost use Rattle.lane_board.specs.Board.{field_of};
     ghost use Rattle.place_sets.specs.States.{states_of, states_with, no_states};
 

@@ -145,14 +145,6 @@ taken_part F rows supply cell here t = taken (split t.parts cell (omega (arith, 
         supplied : (piece : Piece) → parts_of t.parts piece ≤ supply piece → parts_of s.rest piece ≤ cond (piece_code s.part.piece == piece_code piece) (supply piece - 1) (supply piece)
         supplied piece enough = search (rules, cases_Bool, cond-true, cond-false)
 
--- rows rise where the test of each two cells of a list says so
-abbrev pub rises : (ℤ → ℕ) → List Cell → Bool
-rises row cells = list_all (λ c. list_all (λ d. not (int_lt c.1 d.1) || nat_lt (row c.1) (row d.1)) cells) cells
-
-pub rising-from_test : (row : ℤ → ℕ) (cells : List Cell) → rises row cells ≡ true →
-    (c d : Cell) → is_among cells c ≡ true → is_among cells d ≡ true → int_lt c.1 d.1 ≡ true → row c.1 < row d.1
-rising-from_test row cells all c d has_c has_d lower = search (rules, ltb-true, implied, is_among-all)
-
 -- fields with the same empty cells below their rows have the same tilings there
 pub same_tiling : (F G : Field) (n m : ℕ) (supply : Supply) → ((cell : Cell) → is_empty_below F n cell ≡ is_empty_below G m cell) → Tiling F n supply → Tiling G m supply
 same_tiling F G n m supply same t = search rules

@@ -1,4 +1,4 @@
--- What one placement, and a run of placements, does to tilings.
+-- Laws of tilings: what placements do to them, parity, and walls.
 use Rattle.std.specs.Prelude.{◌≡◌, ℕ, suc, ◌+◌, ◌-◌, ◌*◌, ◌%◌, ◌≤◌, IsTrue, ◌==◌, ◌↔◌, if◌then◌else◌, List, [], ◌∷◌, count_by, sum_by, nat_abs, ◌<◌}
 use Rattle.std.specs.List.{list_all}
 use Rattle.lane_board.specs.Field.{Field}
@@ -50,8 +50,8 @@ ClearsRows F rows (q ∷ rest) = IsTrue (is_free F q) × IsTrue (is_below rows q
 unfoldable pub kinds_placed : List Placement → Supply
 kinds_placed placements piece = count_by (λ q. piece_code q.piece == piece_code piece) placements
 
--- where a run of placements clears all rows, its placements leave a tiling of the field before it; so it is before
--- each of them, since the rest of a run is a run
+-- where a sequence of placements clears all rows, its placements leave a tiling of the field before it; so it is before
+-- each of them, since the rest of the sequence clears the rows that are left
 abbrev pub ClearedIsTiled : Type 0
 ClearedIsTiled = (F : Field) (rows : ℕ) (placements : List Placement) → rows ≤ 23 → LiesBelow F rows →
     ClearsRows F rows placements → Tiling F rows (kinds_placed placements)

@@ -4,5 +4,4 @@ pub use Rattle.queue_pattern.proofs.FallingLemmas.{falling_factor-more}
 pub use Rattle.queue_pattern.proofs.LastElements.{last-fewer, last-some, queues-at, queues-times}
 pub use Rattle.queue_pattern.proofs.PatternFacts.{pattern-alone, pattern-short, pattern-some}
 pub use Rattle.queue_pattern.proofs.QueueLemmas.{length-tails, queues-none, queues-tails, tails-more, tails-none}
-pub use Rattle.queue_pattern.proofs.SetLemmas.{filter_twice, same, same_true}
-pub use Rattle.queue_pattern.proofs.PatternMade.{pattern-made}
+pub use Rattle.queue_pattern.proofs.SetLemmas.{filter_twice, same_true}

@@ -18,19 +18,15 @@ use Rattle.queue_pattern.specs.Sound.{is_sound}
 use Rattle.queue_pattern.proofs.BuilderLemmas.{sound-within}
 use Rattle.queue_pattern.proofs.FallingLemmas.{falling_factor-some}
 use Rattle.queue_pattern.proofs.LimitLemmas.{queue_count-some}
-use Rattle.queue_pattern.proofs.QueueLemmas.{length-queues}
+use Rattle.queue_pattern.proofs.QueueLemmas.{behind, length-queues, uniform-behind}
 use Rattle.queue_pattern.proofs.UniformLemmas.{get-uniform, length-uniform}
-
--- each queue behind a choice
-abbrev behind : List Element → List Piece → List (List Piece)
-behind elements choice = map (λ rest. choice ++ rest) (queues elements)
 
 pub queues-times : (element : Element) (elements : List Element)
     → length (queues (element ∷ elements)) ≡ length (choices (pieces_in element.set) element.chosen) * length (queues elements)
 unfolding queues
 queues-times element elements =
-    length-uniform (behind elements) (choices (pieces_in element.set) element.chosen) (length (queues elements))
-    (record { each = λ choice there. length-map (queues elements) (λ rest. choice ++ rest) })
+    let fronts = choices (pieces_in element.set) element.chosen in
+    length-uniform (behind elements) fronts (length (queues elements)) (uniform-behind elements fronts)
 
 pub queues-at : (element : Element) (elements : List Element) (q r : ℕ) → q < length (choices (pieces_in element.set) element.chosen) → r < length (queues elements)
     → get_or (queues (element ∷ elements)) (q * length (queues elements) + r) []
@@ -41,7 +37,7 @@ queues-at element elements q r q_within r_within =
     let all = queues elements in
     let front = get_or fronts q [] in
     get_or_from_slice_get (queues (element ∷ elements)) (q * length all + r) (front ++ get_or all r []) []
-    (get-uniform (behind elements) fronts (length all) q r (record { each = λ choice there. length-map all (λ rest. choice ++ rest) }) r_within
+    (get-uniform (behind elements) fronts (length all) q r (uniform-behind elements fronts) r_within
     ∙ ap (λ o. option_and_then (λ choice. slice_get (behind elements choice) r) o) (slice_get-get_or fronts q [] q_within)
     ∙ slice_get-get_or (behind elements front) r [] (subst (λ n. r < n) (sym (length-map all (λ rest. front ++ rest))) r_within)
     ∙ ap Some (get_or-map (λ rest. front ++ rest) all r [] [] r_within))

@@ -9,7 +9,7 @@ use Rattle.std.proofs.lemmas.List.Concat.{flat_map-append}
 use Rattle.srs.specs.declared.piece.Piece.{Piece}
 use Rattle.queue_pattern.specs.declared.element.Element.{Element}
 use Rattle.queue_pattern.specs.Queues.{pieces_in, others, choices, queues, tails, falling_factor, queue_count}
-use Rattle.queue_pattern.proofs.UniformLemmas.{length-uniform, get-uniform}
+use Rattle.queue_pattern.proofs.UniformLemmas.{IsUniform, length-uniform, get-uniform}
 use Rattle.queue_pattern.proofs.ChoiceLemmas.{IsSet, pieces_in-set, others-set, length-others, length-choices}
 
 pub queues-tails : (element : Element) (elements : List Element) → queues (element ∷ elements) ≡ tails (pieces_in element.set) element.chosen elements
@@ -47,11 +47,18 @@ tails-more pieces n elements =
     flat-flat (λ choice. map (λ rest. choice ++ rest) (queues elements)) (λ piece. map (λ rest. piece ∷ rest) (choices (others piece pieces) n)) pieces
     ∙ ap (λ (f : Piece → List (List Piece)). flat_map f pieces) (fun_ext (λ piece. flat-cons piece (queues elements) (choices (others piece pieces) n)))
 
+-- each queue behind a choice
+abbrev pub behind : List Element → List Piece → List (List Piece)
+behind elements choice = map (λ rest. choice ++ rest) (queues elements)
+
+pub uniform-behind : (elements : List Element) (choices : List (List Piece)) → IsUniform (behind elements) choices (length (queues elements))
+uniform-behind elements choices = record { each = λ choice there. length-map (queues elements) (λ rest. choice ++ rest) }
+
 length-tails_of : (pieces : List Piece) (n : ℕ) (elements : List Element) → IsSet pieces → length (queues elements) ≡ queue_count elements
     → length (tails pieces n elements) ≡ falling_factor (length pieces) n * queue_count elements
 unfolding tails
 length-tails_of pieces n elements set rest =
-    length-uniform (λ choice. map (λ rest. choice ++ rest) (queues elements)) (choices pieces n) (length (queues elements)) (record { each = λ choice there. length-map (queues elements) (λ rest. choice ++ rest) })
+    length-uniform (behind elements) (choices pieces n) (length (queues elements)) (uniform-behind elements (choices pieces n))
     ∙ times (length-choices n pieces set) rest
   where
     times : {a b c d : ℕ} → a ≡ b → c ≡ d → a * c ≡ b * d

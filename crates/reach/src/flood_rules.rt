@@ -32,14 +32,13 @@ pub struct FloodRules {
 impl FloodRules {
     ghost use Rattle.std.specs.Prelude.{◌+◌};
     ghost use Rattle.srs.specs.declared.placement.Placement.{Placement};
-    ghost use Rattle.well.specs.LockLaws.{is_below};
     ghost use Rattle.well.specs.Well.{filled};
     ghost use Rattle.moves.specs.Place.{IsPlace};
     ghost use Rattle.place_sets.specs.Places.{holds, piece_of};
     ghost use Rattle.reach.specs.FloodRules.{flood_table};
 
-    #[tactic(auto, unfolding(crate::specs::FloodRules::flood_table))]
     /// Prepares these rules.
+    #[tactic(auto, unfolding(crate::specs::FloodRules::flood_table))]
     pub fn new(rules: &Rules) -> FloodRules
         ensures { flood_table result ≡ table_of rules.now }
     {

@@ -1,5 +1,5 @@
 // Whether a table has the offsets of the Super Rotation System for one piece. No other offset matters to its places.
-// `KIND` numbers the compiled copies, as in `soft`.
+// `KIND` numbers the compiled copies, as in `soft` of `low_flood`.
 ghost use Rattle.std.specs.Prelude.{◌≡◌, ◌≤◌, ◌↔◌, IsTrue};
 ghost use Rattle.srs.specs.Kick.{srs_table, offset_in};
 ghost use Rattle.srs.specs.Rules.{table_of};

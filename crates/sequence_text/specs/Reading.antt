@@ -1,5 +1,4 @@
--- How the value of `--after` is read, byte by byte. The form is that of `SequenceText`: the law
--- `texts_are_read_as_they_spell` says that both agree.
+-- How the text of a sequence is read, byte by byte. The law `texts_are_read_as_they_spell` ties it to `Form`.
 use Rattle.std.specs.Prelude.{ℕ, zero, suc, ◌+◌, ◌-◌, Bool, true, false, ◌&&◌, ◌||◌, ◌==◌, nat_lt, if◌then◌else◌, List, [], ◌∷◌, ◌++◌, Option, Some, None, option_map, Result, Ok, Err}
 use Rattle.std.specs.Option.{option_map_or}
 use Rattle.arrayvec.specs.ArrayVec.{ArrayVec}

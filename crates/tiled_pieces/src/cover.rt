@@ -2,7 +2,8 @@
 ghost use Rattle.std.specs.Prelude.{◌≤◌};
 
 use empty_cells::{Shifted, SupplyWord};
-/// A set of cells, of whose first one a piece is to cover, and the supply for what it leaves.
+
+/// A set of cells whose first one a piece is to cover, and the supply for what the piece leaves.
 #[derive(Clone, Copy)]
 pub(crate) struct Cover {
     /// Their columns are counted from that of the first cell.

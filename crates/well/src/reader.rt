@@ -21,7 +21,7 @@ pub(crate) struct RowsReader {
 }
 
 impl RowsReader {
-    ghost use Rattle.std.specs.Prelude.{◌+◌, ◌<◌, ◌==◌, if◌then◌else◌, MatchOption, IfOk, IfErr, Some, None};
+    ghost use Rattle.std.specs.Prelude.{◌+◌, ◌<◌, ◌==◌, if◌then◌else◌, IfOk, IfErr, Some, None};
     ghost use Rattle.lane_board.specs.Field.{empty_field, with_cell};
     ghost use Rattle.well.specs.Rows.{fault_at_byte, fault_at_end};
     ghost use Rattle.well.specs.RowsReading.{ReadsByte, raised};

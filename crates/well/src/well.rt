@@ -15,8 +15,8 @@ pub struct Well {
 }
 
 impl Well {
-    ghost use Rattle.std.specs.Prelude.{◌≤◌, ◌<◌, IsTrue, MatchOption, IfOk, IfErr, Some, None};
-    ghost use Rattle.lane_board.specs.Field.{Field, empty_field, with_cell};
+    ghost use Rattle.std.specs.Prelude.{◌≤◌, ◌<◌, IsTrue, IfOk, IfErr, Some, None};
+    ghost use Rattle.lane_board.specs.Field.{empty_field, with_cell};
     ghost use Rattle.well.specs.RowsReading.{raised};
     ghost use Rattle.well.specs.Well.{filled};
     ghost use Rattle.well.specs.Counts.{empties_below, is_filled_row, lowest_full, lowest_filled_from};

@@ -1,4 +1,4 @@
-// The flood of the whole field of 24 rows, for any field and any table of offsets.
+// The flood of the whole well, for any field and any table of offsets.
 #![tactic(auto)]
 
 mod flood;

@@ -1,5 +1,5 @@
-// The hands of queues, and sets of hands: each call, and cases that cross blocks. Hands are written in digits of eight, the
-// first piece last.
+// The hands of queues, and sets of hands, with cases that cross blocks. Hands are written in digits of eight, the first
+// piece last.
 use hands::{HandSet, QueueHands, Starts, hand_of};
 use hold_queue::Hold;
 use pc_outside::NoMemory;

@@ -1,6 +1,6 @@
 -- The blocks are cut in two.
 use Rattle.std.proofs.Common.{◌≡◌, ◌||◌, All, length, take, drop, ap, sym, subst, ◌∙◌, arith}
-use Rattle.std.proofs.lemmas.List.{length-drop}
+use Rattle.std.proofs.lemmas.List.{length-drop, length-take}
 use Rattle.std.proofs.lemmas.List.Elements.{All-drop, All-take}
 use Rattle.hands.specs.BlockHands.{AreInOrder, IsBlock}
 use Rattle.hands.specs.Blocks.{ending_of, have_parts, key_of}
@@ -25,18 +25,25 @@ invariant_of-result-2 c =
       each = subst (All IsBlock) (sym others) (All-drop IsBlock c.args.count blocks c.args.self.now.each);
     }
 
-pub returns-clause-first : goal.returns-clause-first
-returns-clause-first c = let blocks = c.args.self.now.blocks.items in before-cut blocks c.as_slice-blocks.result.now c.in_ok-first.first.items c.args.count c.min-cut.result c.in_ok-first.ensures.items c.as_slice-blocks.ensures.value (omega (arith, c.min-cut.ensures, c.len.ensures))
-
-pub returns-clause-others : goal.returns-clause-others
-returns-clause-others c = let blocks = c.args.self.now.blocks.items in behind-cut blocks c.as_slice-blocks.result.now c.in_ok-others.others.items c.args.count c.min-cut.result c.in_ok-others.ensures.items c.as_slice-blocks.ensures.value (omega (arith, c.min-cut.ensures, c.len.ensures))
+pub returns-clause-few : goal.returns-clause-few
+unfolding block_count
+returns-clause-few c =
+    let blocks = c.args.self.now.blocks.items in
+    let first : c.in_ok-first.first.items ≡ take c.args.count blocks = before-cut blocks c.as_slice-blocks.result.now c.in_ok-first.first.items c.args.count c.min-cut.result c.in_ok-first.ensures.items c.as_slice-blocks.ensures.value (omega (arith, c.min-cut.ensures, c.len.ensures)) in
+    omega (arith, ap length first, length-take c.args.count blocks)
 
 pub returns-clause-parts : goal.returns-clause-parts
 unfolding has
 returns-clause-parts c = λ hand.
-    parts-cut c.args.self.now.blocks.items c.args.count (key_of hand) (ending_of hand)
-    ∙ (λ x. have_parts (sym (returns-clause-first c) x) (key_of hand) (ending_of hand) || have_parts (sym (returns-clause-others c) x) (key_of hand) (ending_of hand))
+    let blocks = c.args.self.now.blocks.items in
+    let first : c.in_ok-first.first.items ≡ take c.args.count blocks = before-cut blocks c.as_slice-blocks.result.now c.in_ok-first.first.items c.args.count c.min-cut.result c.in_ok-first.ensures.items c.as_slice-blocks.ensures.value (omega (arith, c.min-cut.ensures, c.len.ensures)) in
+    let others : c.in_ok-others.others.items ≡ drop c.args.count blocks = behind-cut blocks c.as_slice-blocks.result.now c.in_ok-others.others.items c.args.count c.min-cut.result c.in_ok-others.ensures.items c.as_slice-blocks.ensures.value (omega (arith, c.min-cut.ensures, c.len.ensures)) in
+    parts-cut blocks c.args.count (key_of hand) (ending_of hand)
+    ∙ (λ x. have_parts (sym first x) (key_of hand) (ending_of hand) || have_parts (sym others x) (key_of hand) (ending_of hand))
 
 pub returns-clause-size : goal.returns-clause-size
 unfolding block_count
-returns-clause-size c = ap length (returns-clause-others c) ∙ length-drop c.args.count c.args.self.now.blocks.items
+returns-clause-size c =
+    let blocks = c.args.self.now.blocks.items in
+    let others : c.in_ok-others.others.items ≡ drop c.args.count blocks = behind-cut blocks c.as_slice-blocks.result.now c.in_ok-others.others.items c.args.count c.min-cut.result c.in_ok-others.ensures.items c.as_slice-blocks.ensures.value (omega (arith, c.min-cut.ensures, c.len.ensures)) in
+    ap length others ∙ length-drop c.args.count blocks
