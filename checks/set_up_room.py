@@ -168,7 +168,7 @@ class Room:
         self.remember(64_000_000)
         self.pc = os.path.join(self.top, "pc")
         self.env = {**os.environ, "PATH": f"{self.kit}/bin:{os.environ['PATH']}", "STAND_IN_PROGRAM": PROGRAM,
-                    "PC_MEMINFO": f"{self.kit}/meminfo", "HOME": os.path.join(folder, "home")}
+                    "PC_MEMINFO": f"{self.kit}/meminfo", "PC_CGROUP": f"{self.kit}/group", "HOME": os.path.join(folder, "home")}
 
     def write(self, path, text, mode=0o644):
         with open(path, "w", encoding="utf-8") as it:
@@ -197,6 +197,16 @@ class Room:
     def remember(self, free):
         """Has so many KB of memory be free."""
         self.write(f"{self.kit}/meminfo", f"MemAvailable: {free} kB\nSwapFree: 0 kB\n")
+
+    @contextlib.contextmanager
+    def grouped(self, files):
+        """Has a control group be the one of these files, by their places, for a while."""
+        folder = self.env["PC_CGROUP"]
+        for place, text in files.items():
+            os.makedirs(os.path.dirname(f"{folder}/{place}"), exist_ok=True)
+            self.write(f"{folder}/{place}", f"{text}\n")
+        yield
+        shutil.rmtree(folder)
 
     def forget(self):
         for name in os.listdir(f"{self.top}/crates"):

@@ -9,16 +9,19 @@ job_memory=3000
 # The first number of a file, or nothing.
 number_in() { sed -n 's/^\([0-9][0-9]*\).*/\1/p;q' "$1" 2>/dev/null || true; }
 
-# The memory in MB that is free here, under the limit of a control group too. (PC_MEMINFO: what checks/set-up has it read.)
+# The memory in MB that is free here, under the limit of a control group too; files that are cached in it and not in use
+# count as free. (PC_MEMINFO, PC_CGROUP: what checks/set-up has it read.)
 free_memory() {
-    local free limit used folder=/sys/fs/cgroup
+    local free limit used cached folder=${PC_CGROUP:-/sys/fs/cgroup}
     free=$(awk '/^(MemAvailable|SwapFree):/ { sum += $2 } END { print int(sum / 1024) }' "${PC_MEMINFO:-/proc/meminfo}")
-    limit=$(number_in $folder/memory.max) used=$(number_in $folder/memory.current)
+    limit=$(number_in "$folder/memory.max") used=$(number_in "$folder/memory.current")
     if [ -z "$limit" ]; then
-        limit=$(number_in $folder/memory/memory.limit_in_bytes) used=$(number_in $folder/memory/memory.usage_in_bytes)
+        folder+=/memory
+        limit=$(number_in "$folder/memory.limit_in_bytes") used=$(number_in "$folder/memory.usage_in_bytes")
     fi
-    if [ -n "$limit" ] && [ -n "$used" ] && ((${#limit} < 16 && (limit - used) >> 20 < free)); then
-        free=$(((limit - used) >> 20))
+    cached=$(awk '/^(total_)?inactive_file / { found = $2 } END { printf "%.0f", found }' "$folder/memory.stat" 2>/dev/null) || cached=0
+    if [ -n "$limit" ] && [ -n "$used" ] && ((${#limit} < 16 && (limit - used + cached) >> 20 < free)); then
+        free=$(((limit - used + cached) >> 20))
     fi
     echo "$free"
 }
