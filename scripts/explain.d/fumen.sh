@@ -22,6 +22,10 @@ no_fumen() {
     quote "$value"
     if [ -z "$value" ]; then
         say "The value of --tetfu is empty. $form."
+    elif [ "$value" = - ]; then
+        say "cover reads its sequences from standard input, so --tetfu takes the text itself here, and not -."
+    elif [ -f "$value" ] && [ "$command" = cover ]; then
+        say "$quoted is the name of a file, and --tetfu takes the text itself: write --tetfu \"\$(cat $quoted)\""
     elif [ -f "$value" ]; then
         say "$quoted is the name of a file, and --tetfu takes the text itself: write --tetfu - and read the file by < ${quoted}"
     elif [[ $value =~ [VMD]11[05]@ ]]; then

@@ -78,7 +78,10 @@ say_values() {
 say_form() {
     case "$1" in
     --rows) takes="rows from the top down, as XXXXXX____/XXXXXX____" ;;
-    --tetfu) takes="a fumen text, as v115@vhAVQJ, or - for standard input" ;;
+    --tetfu)
+        takes="a fumen text, as v115@vhAVQJ"
+        [ "$command" = cover ] || takes+=", or - for standard input"
+        ;;
     --patterns) takes="the queues, as TIO or '*p4'" ;;
     --kicks) takes="a table of offsets, as \"$tool kicks\" writes it" ;;
     --after) takes="a line that path listed, between quotes" ;;
