@@ -214,7 +214,7 @@ class Room:
 
     def run(self, *words, command=None, env=None, **how):
         how = {"stdin": subprocess.DEVNULL, "stdout": subprocess.PIPE, "stderr": subprocess.PIPE, "timeout": 100, **how}
-        ended = subprocess.run([command or self.pc, *words], env={**self.env, **(env or {})}, cwd="/", **how)
+        ended = subprocess.run([command or self.pc, *words], env={**self.env, **(env or {})}, **{"cwd": "/", **how})
         return ended.returncode, ended.stdout, ended.stderr
 
     def on_terminal(self, *words, env=None):
