@@ -1,12 +1,12 @@
 """Questions that the C library and the program are both asked, and what must agree; for checks/embed."""
 import collections
 import ctypes
-import importlib.machinery
-import importlib.util
 import os
 import random
 import subprocess
 from concurrent.futures import ProcessPoolExecutor
+
+from agree_questions import PIECES, Differs, Question, page_line, same, table_entry
 
 TOP = os.path.dirname(os.path.dirname(os.path.realpath(__file__)))
 PROGRAM = os.environ.get("PC_PROGRAM", os.path.join(TOP, "crates", "pc_cli", "out", "pc_cli"))
@@ -14,26 +14,6 @@ DONE, FAULT, NO_ROOM, NO_WORDS, OTHER_COMMAND = 0, 2, 4, 6, 7
 FAULT_ROOM = 128
 # The faults of words, which are those of each command.
 OF_WORDS = (b"input: Words.", b"input: Kicks.")
-
-
-def module(path):
-    """A script of checks/, whose file has no ending, as a module."""
-    loader = importlib.machinery.SourceFileLoader(os.path.basename(path), path)
-    made = importlib.util.module_from_spec(importlib.util.spec_from_loader(loader.name, loader))
-    loader.exec_module(made)
-    return made
-
-
-agree = module(os.path.join(TOP, "checks", "agree"))
-
-
-class Differs(Exception):
-    pass
-
-
-def same(found, wanted, of):
-    if found != wanted:
-        raise Differs(f"{of}: {found!r} beside {wanted!r}")
 
 
 def program(words, given=b""):
@@ -114,10 +94,10 @@ def lines_by(library, *words, given=""):
 
 
 def of_path(draw, library):
-    words = agree.Question(draw).words()
+    words = Question(draw).words()
     if draw.random() < 0.15:
         words += ["--after", draw.choice(lines_by(library, *words, "--limit", "3")[:-1] or ["I0:5,3 O0:4,0"])]
-    for option, values in (("--limit", ["1", "7", "40"]), ("--keys", ["yes", "no"]), ("--held", agree.PIECES),
+    for option, values in (("--limit", ["1", "7", "40"]), ("--keys", ["yes", "no"]), ("--held", PIECES),
                            ("--format", ["text", "fumen", "grid"]), ("--stats", ["yes"])):
         if draw.random() < 0.3:
             words += [option, draw.choice(values)]
@@ -125,11 +105,11 @@ def of_path(draw, library):
 
 
 def of_percent(draw, library):
-    return agree.Question(draw).words("percent") + ["--failed", str(draw.choice([0, 3, 1000]))], ""
+    return Question(draw).words("percent") + ["--failed", str(draw.choice([0, 3, 1000]))], ""
 
 
 def of_cover(draw, library):
-    question = agree.Question(draw)
+    question = Question(draw)
     listed = lines_by(library, *question.words())
     draw.shuffle(listed)
     return question.words("cover"), "\n".join(listed[:8])
@@ -138,12 +118,12 @@ def of_cover(draw, library):
 def of_combo(draw, library):
     widths = [draw.randint(0, 4) for _ in range(draw.randint(1, 6))]
     rows = ["X" * 3 + "_" * width + "X" * (7 - width) for width in widths]
-    queue = "".join(draw.choice(agree.PIECES) for _ in range(draw.randint(1, 6)))
+    queue = "".join(draw.choice(PIECES) for _ in range(draw.randint(1, 6)))
     return ["combo", "--rows", "/".join(rows), "--patterns", queue], ""
 
 
 def of_encode(draw, library):
-    lines = "".join(agree.page_line(draw) + draw.choice(["\n", "\r\n"]) for _ in range(draw.randint(0, 9)))
+    lines = "".join(page_line(draw) + draw.choice(["\n", "\r\n"]) for _ in range(draw.randint(0, 9)))
     return ["encode", "--dialect", draw.choice(["110", "115"])], lines
 
 
@@ -157,8 +137,8 @@ def of_fumen(draw, library):
 
 
 def of_kicks(draw, library):
-    pieces = draw.sample(agree.PIECES, draw.randint(0, 3))
-    return ["kicks", "--kicks", ";".join(agree.table_entry(draw, piece) for piece in pieces)], ""
+    pieces = draw.sample(PIECES, draw.randint(0, 3))
+    return ["kicks", "--kicks", ";".join(table_entry(draw, piece) for piece in pieces)], ""
 
 
 def of_selfrun(draw, library):

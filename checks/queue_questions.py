@@ -2,7 +2,7 @@
 import collections
 import ctypes
 
-from library_questions import DONE, FAULT, FAULT_ROOM, NO_ROOM, NO_WORDS, OF_WORDS, OTHER_COMMAND, Differs, Library
+from library_questions import DONE, FAULT, FAULT_ROOM, NO_ROOM, NO_WORDS, OF_WORDS, OTHER_COMMAND, Library
 from library_questions import Family, of_percent, program, same, written_by
 
 # A field that no queue clears, so that `percent` lists all queues of a pattern as failed.

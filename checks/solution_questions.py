@@ -2,7 +2,7 @@
 import collections
 import ctypes
 
-from library_questions import DONE, FAULT, FAULT_ROOM, NO_ROOM, NO_WORDS, OF_WORDS, OTHER_COMMAND, Differs, Library
+from library_questions import DONE, FAULT, FAULT_ROOM, NO_ROOM, NO_WORDS, OF_WORDS, OTHER_COMMAND, Library
 from library_questions import Family, of_path, program, same, written_by
 
 NO_SEQUENCE = 8
