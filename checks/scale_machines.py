@@ -14,10 +14,8 @@ from scale_studies import STUDY
 from scale_workshop import each, signalled
 
 
-@contextlib.contextmanager
-def machines(workshop):
-    """A server of ssh on the loopback address, with a key and a port of its own, by the names one and two; its configuration."""
-    folder = tempfile.mkdtemp(prefix="scale-ssh-")  # without a blank, which PARALLEL_SSH can't name
+def configured(folder):
+    """Makes keys in the folder, and the configurations of a server and of those that ask it."""
     key, host_key = os.path.join(folder, "key"), os.path.join(folder, "host_key")
     for it in (key, host_key):
         subprocess.run(["ssh-keygen", "-q", "-t", "ed25519", "-N", "", "-f", it], check=True)
@@ -52,6 +50,14 @@ Host one two gone
     UserKnownHostsFile {folder}/known
     LogLevel ERROR
 """)
+    return served, asking
+
+
+@contextlib.contextmanager
+def machines(workshop):
+    """A server of ssh on the loopback address, with a key and a port of its own, by the names one and two; its configuration."""
+    folder = tempfile.mkdtemp(prefix="scale-ssh-")  # without a blank, which PARALLEL_SSH can't name
+    served, asking = configured(folder)
     made = os.geteuid() == 0 and not os.path.exists("/run/sshd")
     if made:
         os.mkdir("/run/sshd", 0o755)
