@@ -12,7 +12,12 @@ _voidosier() {
     *help*\ help) first=2 ;;
     *explain*\ explain) first=3 own= ;;
     *install*\ install | *install*\ uninstall)
-        if [ "$last" = --prefix ]; then COMPREPLY=($(compgen -d -- "$word")); else COMPREPLY=($(compgen -W --prefix -- "$word")); fi
+        if [ "$last" = --prefix ]; then
+            compopt -o filenames 2>/dev/null
+            mapfile -t COMPREPLY < <(compgen -d -- "$word")
+        else
+            COMPREPLY=($(compgen -W --prefix -- "$word"))
+        fi
         return
         ;;
     esac
