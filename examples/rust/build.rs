@@ -9,6 +9,10 @@ fn main() {
             .args(["--variable=libdir", "voidosier"])
             .output();
         let found = found.expect("pkg-config says where the library is, or VOIDOSIER_LIB");
+        assert!(
+            found.status.success(),
+            "pkg-config knows no voidosier: set VOIDOSIER_LIB"
+        );
         String::from_utf8(found.stdout)
             .expect("a folder in UTF-8")
             .trim()

@@ -1,4 +1,4 @@
-//! Voidosier from Rust: the calls of include/voidosier.h, safe.
+//! Voidosier from Rust: voidosier_run of include/voidosier.h, safe.
 
 use std::error::Error;
 use std::fmt;
@@ -45,7 +45,7 @@ impl Status {
             4 => Status::NoRoom,
             5 => Status::NoMemory,
             6 => Status::NoWords,
-            _ => unreachable!("voidosier.h has no status {number}"),
+            _ => unreachable!("voidosier_run ends with no status {number}"),
         }
     }
 }
