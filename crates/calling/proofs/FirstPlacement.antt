@@ -27,16 +27,16 @@ use Rattle.calling.specs.FirstMove.{BeginsLeast, IsBotProblem}
 
 module _ (problem : Problem) (fit : IsFit problem) where
   pub some_placement : (s : List Placement) → IsSolution problem None s → 0 < length s
-  some_placement [] is = let some = fit.some in absurd (omega (arith, is.plays.0, some))
+  some_placement [] is = let some = fit.field.fit.some in absurd (omega (arith, is.plays.0, some))
   some_placement (q ∷ s) is = omega arith
 
   pub first_place : (s : List Placement) (d : Placement) → IsSolution problem None s → IsPlace (table_of problem.rules) (filled problem.well) problem.drop_mode (get_or s 0 d)
-  first_place [] d is = let some = fit.some in absurd (omega (arith, is.plays.0, some))
+  first_place [] d is = let some = fit.field.fit.some in absurd (omega (arith, is.plays.0, some))
   first_place (q ∷ s) d is = is.plays.0
 
   pub first_begins : (s : List Placement) (d q : Placement) (keys : List Key) → q ≡ get_or s 0 d → IsLeastAbove sequence_cmp (IsSolution problem None) None s
       → IsLeastKeyWord (table_of problem.rules) (filled problem.well) problem.drop_mode (get_or s 0 d) (Some keys) → BeginsLeast problem q keys
-  first_begins [] d q keys same least word = let some = fit.some in absurd (omega (arith, least.member.plays.0, some))
+  first_begins [] d q keys same least word = let some = fit.field.fit.some in absurd (omega (arith, least.member.plays.0, some))
   first_begins (p ∷ s) d q keys same least word = subst (λ q. BeginsLeast problem q keys) (sym same) (record { rest = s; least = least; least_keys = word })
 
 -- the problem that a bot asks about

@@ -58,7 +58,7 @@ module _ (problem : Problem) (fit : IsFit problem) (sequences : List (List Place
   all_queues = queues (elements_of problem.pattern)
 
   low : IsLow (filled problem.well) problem.height
-  low = filled-low problem.well problem.height (omega (arith, fit.low)) fit.below
+  low = filled-low problem.well problem.height (omega (arith, fit.field.fit.low)) fit.field.below
 
   clears : List Placement → Bool
   clears sequence = plays (table_of problem.rules) problem.drop_mode (filled problem.well) problem.height sequence

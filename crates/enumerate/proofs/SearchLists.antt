@@ -70,7 +70,7 @@ rows-left n some = cond-false (n.rows == 0) ([] ∷ []) [] (not-zero n.rows some
 module _ (problem : Problem) (fit : IsFit problem) (queue : Option (List Piece)) where
   pub root-low : IsLow (root_of problem queue).field (root_of problem queue).rows
   unfolding root_of
-  root-low = filled-low problem.well problem.height (omega (arith, fit.low)) fit.below
+  root-low = filled-low problem.well problem.height (omega (arith, fit.field.fit.low)) fit.field.below
 
   to-solution : (s : List Placement) → IsSolved (needed_of problem) (root_of problem queue) s → IsSolution problem queue s
   unfolding root_of
@@ -82,7 +82,7 @@ module _ (problem : Problem) (fit : IsFit problem) (queue : Option (List Piece))
 
   no-rows : (root_of problem queue).rows ≡ 0 → ⊥
   unfolding root_of
-  no-rows none = omega (arith, none, fit.some)
+  no-rows none = omega (arith, none, fit.field.fit.some)
 
   -- where placements are needed
   pub sols-list : IsRisingListOf sequence_cmp (IsSolution problem queue) (sols (needed_of problem) (root_of problem queue))

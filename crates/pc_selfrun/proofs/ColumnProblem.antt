@@ -29,9 +29,10 @@ module _ (column : ℕ) (problem : Problem) (within : column < 7) (named : IsCol
       let needed = four_needed in
       let five : queue_len (elements_of problem.pattern) ≡ 5 = ap queue_len (elements_are column problem named) in
       record {
-        some = omega (arith, height);
-        low = omega (arith, height);
-        below = (λ i. lowest_filled_from (named.field i) (named.height i)) ∙ no_high_cell column within;
-        open_rows = ap lowest_full named.field ∙ no_full_row column within;
+        field = record {
+          fit = record { some = omega (arith, height); low = omega (arith, height) };
+          below = (λ i. lowest_filled_from (named.field i) (named.height i)) ∙ no_high_cell column within;
+          open_rows = ap lowest_full named.field ∙ no_full_row column within;
+        };
         enough = λ whole. omega (arith, needed, five);
       }

@@ -93,7 +93,7 @@ good-decides problem queue fit = (there, back)
   where
     there : is_good_queue problem queue ≡ true → Good problem queue
     there good =
-        let low = filled-low problem.well problem.height (omega (arith, fit.low)) fit.below in
+        let low = filled-low problem.well problem.height (omega (arith, fit.field.fit.low)) fit.field.below in
         let played = played-good (game_of problem) (filled problem.well) problem.height (needed_of problem) (take (taken_from problem.hold (needed_of problem)) (at_hand problem.hold problem.held queue)) low good in
         let cut = takes-is_cut problem.hold (taken_from problem.hold (needed_of problem)) (at_hand problem.hold problem.held queue) (pieces_of played.0) (enough problem.hold played.0 (needed_of problem) played.1) in
         record {
@@ -145,6 +145,6 @@ good-plays game F rows (suc left) hand low good =
 
 pub uneven-none : (problem : Problem) → IsFit problem → (empties_of problem % 4 ≡ 0 → ⊥) → (left hand : ℕ) → is_good (game_of problem) (filled problem.well) problem.height left hand ≡ false
 uneven-none problem fit uneven left hand = false_from_ne_true _ (λ good.
-    let low = filled-low problem.well problem.height (omega (arith, fit.low)) fit.below in
+    let low = filled-low problem.well problem.height (omega (arith, fit.field.fit.low)) fit.field.below in
     let played = good-plays (game_of problem) (filled problem.well) problem.height left hand low good in
     uneven (needed-exact problem fit played.0 played.1))

@@ -46,9 +46,9 @@ plays-count table mode F rows (q ∷ s) low plays =
 
 empties-filled : (problem : Problem) → IsFit problem → (s : List Placement) → Plays (table_of problem.rules) problem.drop_mode (filled problem.well) problem.height s → empties_of problem ≡ 4 * length s
 empties-filled problem fit s plays =
-    let low = filled-low problem.well problem.height (omega (arith, fit.low)) fit.below in
+    let low = filled-low problem.well problem.height (omega (arith, fit.field.fit.low)) fit.field.below in
     let whole = plays-count (table_of problem.rules) problem.drop_mode (filled problem.well) problem.height s low plays in
-    let same = count-low (filled problem.well) problem.height 23 low.none (omega (arith, fit.low)) in
+    let same = count-low (filled problem.well) problem.height 23 low.none (omega (arith, fit.field.fit.low)) in
     omega (arith, whole, same)
 
 pub long-needed : (problem : Problem) → IsFit problem → (s : List Placement) → Plays (table_of problem.rules) problem.drop_mode (filled problem.well) problem.height s → length s ≡ needed_of problem
@@ -59,4 +59,4 @@ pub needed-exact : (problem : Problem) → IsFit problem → (s : List Placement
 needed-exact problem fit s plays = omega (arith, empties-filled problem fit s plays)
 
 pub needed-few : (problem : Problem) → IsFit problem → needed_of problem ≤ 20
-needed-few problem fit = omega (arith, fit.low)
+needed-few problem fit = omega (arith, fit.field.fit.low)

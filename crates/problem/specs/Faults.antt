@@ -1,23 +1,12 @@
 -- The first thing that keeps a problem from being fit.
-use Rattle.std.specs.Prelude.{◌≡◌, ℕ, ◌%◌, ◌<◌, ◌≤◌, ◌⊎◌, Some, None}
+use Rattle.std.specs.Prelude.{◌≡◌, ℕ, ◌%◌, ◌<◌, ◌⊎◌, Some, None}
 use Rattle.lane_board.specs.Field.{Field}
 use Rattle.well.specs.Well.{filled}
 use Rattle.well.specs.Counts.{lowest_full, lowest_filled_from}
 use Rattle.problem.specs.declared.problem.Problem.{Problem}
 use Rattle.problem.specs.declared.fault.ProblemFault.{ProblemFault}
 use Rattle.problem.specs.declared.fault.ProblemFault.TheVariants.{BadHeight, FieldTooHigh, FullRow, TooFewPieces}
-use Rattle.problem.specs.Problem.{empties_of, needed_of, pieces_at_hand}
-
--- The height is 1 to 8.
-pub record IsFitHeight (height : ℕ) : Type 0 where
-  pub some : 1 ≤ height
-  pub low : height ≤ 8
-
--- The height is 1 to 8, no cell lies at or above it, and no row is full.
-pub record IsFitField (F : Field) (height : ℕ) : Type 0 where
-  pub fit : IsFitHeight height
-  pub below : lowest_filled_from F height ≡ None
-  pub open_rows : lowest_full F ≡ None
+use Rattle.problem.specs.Problem.{IsFitField, IsFitHeight, empties_of, needed_of, pieces_at_hand}
 
 -- of a field and a height: the height, else the lowest row with a cell at or above it, else the lowest full row
 abbrev pub IsFieldFault : Field → ℕ → ProblemFault → Type 0

@@ -1,5 +1,6 @@
 -- Which problems have a meaning, and how many placements each solution of one has.
 use Rattle.std.specs.Prelude.{◌≡◌, ℕ, ◌+◌, ◌/◌, ◌%◌, ◌≤◌, Option, Some, None}
+use Rattle.lane_board.specs.Field.{Field}
 use Rattle.well.specs.Well.{filled}
 use Rattle.well.specs.Counts.{empties_below, lowest_full, lowest_filled_from}
 use Rattle.queue_pattern.specs.Pattern.{elements_of}
@@ -26,11 +27,18 @@ empties_of problem = empties_below (filled problem.well) problem.height
 abbrev pub needed_of : Problem → ℕ
 needed_of problem = empties_of problem / 4
 
--- The height is 1 to 8, no cell lies at or above it, no row is full, and where the empty cells are a multiple of four
--- there are enough pieces.
+-- The height is 1 to 8.
+pub record IsFitHeight (height : ℕ) : Type 0 where
+  pub some : 1 ≤ height
+  pub low : height ≤ 8
+
+-- The height is 1 to 8, no cell lies at or above it, and no row is full.
+pub record IsFitField (F : Field) (height : ℕ) : Type 0 where
+  pub fit : IsFitHeight height
+  pub below : lowest_filled_from F height ≡ None
+  pub open_rows : lowest_full F ≡ None
+
+-- The height and the field are fit, and where the empty cells are a multiple of four there are enough pieces.
 pub record IsFit (problem : Problem) : Type 0 where
-  pub some : 1 ≤ problem.height
-  pub low : problem.height ≤ 8
-  pub below : lowest_filled_from (filled problem.well) problem.height ≡ None
-  pub open_rows : lowest_full (filled problem.well) ≡ None
+  pub field : IsFitField (filled problem.well) problem.height
   pub enough : empties_of problem % 4 ≡ 0 → needed_of problem ≤ pieces_at_hand problem

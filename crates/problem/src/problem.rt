@@ -2,8 +2,8 @@
 ghost use Rattle.std.specs.Prelude.{◌≡◌, IfErr, MatchResult, OnOk};
 ghost use Rattle.well.specs.Well.{filled};
 ghost use Rattle.problem.specs.declared.problem.Problem.{Problem};
-ghost use Rattle.problem.specs.Faults.{IsFieldFault, IsFirstFault, IsFitField};
-ghost use Rattle.problem.specs.Problem.{IsFit, pieces_at_hand};
+ghost use Rattle.problem.specs.Faults.{IsFieldFault, IsFirstFault};
+ghost use Rattle.problem.specs.Problem.{IsFit, IsFitField, pieces_at_hand};
 
 use crate::fault::ProblemFault;
 use hold_queue::Hold;

@@ -144,10 +144,11 @@ problem-made patterns request F table range lies read small none =
         rules = ap Ok rules.1 ∙ sym read;
       };
       fit = record {
-        some = range.some;
-        low = range.low;
-        below = ap (λ G. lowest_filled_from G request.height) well.1 ∙ found.1.below;
-        open_rows = ap lowest_full well.1 ∙ found.1.open_rows;
+        field = record {
+          fit = record { some = range.some; low = range.low };
+          below = ap (λ G. lowest_filled_from G request.height) well.1 ∙ found.1.below;
+          open_rows = ap lowest_full well.1 ∙ found.1.open_rows;
+        };
         enough = λ four. subst (λ es. empties_below (filled well.0) request.height / 4 ≤ queue_len es + held_count request.hold request.held) (sym pattern.1)
             (subst (λ G. empties_below G request.height / 4 ≤ queue_len found.0 + held_count request.hold request.held) (sym well.1)
             (found.1.enough (subst (λ G. empties_below G request.height % 4 ≡ 0) well.1 four)));
