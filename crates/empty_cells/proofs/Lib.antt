@@ -15,6 +15,7 @@ mod FormLemmas
 mod FillLemmas
 mod MovedTilings
 mod MovedRows
+mod RefusalLemmas
 mod ShiftedLemmas
 mod PlacedBits
 mod SameTilings

@@ -7,6 +7,7 @@ pub mod Spans
 pub mod ShiftedCells
 pub mod Stacks
 pub mod HasTiling
+pub mod Refusals
 pub mod SentCells
 -- What serves proofs alone
 pub mod ShapeBits

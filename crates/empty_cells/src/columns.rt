@@ -5,6 +5,7 @@ ghost use Rattle.prune.specs.Tiling.{Supply, Tiling};
 ghost use Rattle.prune.specs.Counts.{column_empties};
 ghost use Rattle.prune.specs.Walls.{IsWall, HasUnevenPart};
 ghost use Rattle.empty_cells.specs.Empties.{all_but, empty_cells};
+ghost use Rattle.empty_cells.specs.Refusals.{HasUnevenStart, HasWrongParity};
 ghost use Rattle.empty_cells.specs.SupplyWords.{supply_of};
 
 use crate::empties::Empties;
@@ -34,7 +35,8 @@ impl Empties {
     /// columns. Then there is no tiling. A piece that takes cells of column 0 makes no other wall.
     #[inline(always)]
     pub fn has_uneven_start(&self) -> bool
-        ensures { IsTrue result → (supply : Supply)
+        ensures exact { IsTrue result ↔ HasUnevenStart (empty_cells self.now) }
+        ensures none { IsTrue result → (supply : Supply)
             → Tiling (all_but (empty_cells self.now)) 8 supply → ⊥ }
     {
         for last in 0..4 {
@@ -68,7 +70,10 @@ impl Empties {
     /// cells in even columns is even while that of L and J pieces together is odd, or the other way round.
     #[inline(always)]
     pub fn has_wrong_parity(&self, supply: SupplyWord) -> bool
-        ensures { IsTrue result → Tiling (all_but (empty_cells self.now)) 8 (supply_of supply) → ⊥ }
+        ensures exact { IsTrue result
+            ↔ HasWrongParity (empty_cells self.now) (supply_of supply) }
+        ensures none { IsTrue result
+            → Tiling (all_but (empty_cells self.now)) 8 (supply_of supply) → ⊥ }
     {
         if supply.count_of(Piece::T) > 0 {
             return false;

@@ -27,10 +27,11 @@ fn spread(row: u16) -> u128
 }
 
 impl Empties {
-    ghost use Rattle.std.specs.Prelude.{◌-◌, ◌↔◌, ◌||◌, nat_le, nat_lt, not, IsTrue, MatchOption};
+    ghost use Rattle.std.specs.Prelude.{◌-◌, ◌↔◌, ◌||◌, nat_le, nat_lt, not, IsTrue, MatchOption, min, sum_by};
+    ghost use Rattle.std.specs.List.{range_with_len};
     ghost use Rattle.lane_board.specs.Field.{empty_field, difference, rows_below};
     ghost use Rattle.well.specs.Well.{filled};
-    ghost use Rattle.prune.specs.Counts.{run_empties};
+    ghost use Rattle.prune.specs.Counts.{column_empties, run_empties};
     ghost use Rattle.empty_cells.specs.Empties.{all_but, empty_cells};
     ghost use Rattle.empty_cells.specs.ShiftedCells.{to_column};
     ghost use Rattle.empty_cells.specs.Spans.{from_column, has_span, without_span, HasNoCell, IsFirst};
@@ -75,7 +76,9 @@ impl Empties {
 
     /// Whether the set has at most four cells.
     #[inline(always)]
-    pub fn is_few(&self) -> bool {
+    pub fn is_few(&self) -> bool
+        ensures { IsTrue result ↔ (run_empties (all_but (empty_cells self.now)) 8 0 9 ≤ 4) }
+    {
         self.cells.count_ones() <= 4
     }
 
@@ -143,7 +146,10 @@ impl Empties {
     }
 
     /// Whether more cells lie before a column than in it and after it.
-    pub fn lies_right(&self, column: u8) -> bool {
+    pub fn lies_right(&self, column: u8) -> bool
+        ensures { IsTrue result ↔ (run_empties (all_but (empty_cells self.now)) 8 0 9
+            < 2 * sum_by (column_empties (all_but (empty_cells self.now)) 8) (range_with_len 0 (min column 10))) }
+    {
         let before = self.cells & ((1 << (8 * column.min(10))) - 1);
         2 * before.count_ones() > self.cells.count_ones()
     }

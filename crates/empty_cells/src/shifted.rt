@@ -17,11 +17,13 @@ pub struct Shifted {
 }
 
 impl Shifted {
-    ghost use Rattle.std.specs.Prelude.{◌<◌, IsTrue, MatchOption};
+    ghost use Rattle.std.specs.Prelude.{◌<◌, ◌↔◌, ◌⊎◌, IsTrue, MatchOption};
     ghost use Rattle.lane_board.specs.Lanes.{has_bit};
+    ghost use Rattle.prune.specs.Counts.{run_empties};
     ghost use Rattle.prune.specs.Tiling.{Tiling};
     ghost use Rattle.empty_cells.specs.Empties.{all_but};
     ghost use Rattle.empty_cells.specs.Spans.{from_column, has_span, without_span, HasNoCell, IsFirst};
+    ghost use Rattle.empty_cells.specs.Refusals.{HasUnevenStart, HasWrongParity};
     ghost use Rattle.empty_cells.specs.ShiftedCells.{shifted_cells};
     ghost use Rattle.empty_cells.specs.SupplyWords.{supply_of};
 
@@ -71,7 +73,10 @@ impl Shifted {
 
     /// Whether the set has at most four cells.
     #[inline(always)]
-    pub fn is_few(&self) -> bool {
+    pub fn is_few(&self) -> bool
+        ensures { IsTrue result
+            ↔ (run_empties (all_but (from_column self.now.x (shifted_cells self.now))) 8 0 9 ≤ 4) }
+    {
         self.cells.is_few()
     }
 
@@ -96,10 +101,13 @@ impl Shifted {
         }
     }
 
-    /// Whether a wall in the first four columns, or parity, shows that there is no tiling.
+    /// Whether a wall in the first four columns from that one on, or parity, shows that there is no tiling.
     #[inline(always)]
     pub fn is_refused(&self, supply: SupplyWord) -> bool
-        ensures { IsTrue result → Tiling (all_but (shifted_cells self.now)) 8 (supply_of supply) → ⊥ }
+        ensures exact { IsTrue result
+            ↔ (HasUnevenStart (from_column self.now.x (shifted_cells self.now))
+            ⊎ HasWrongParity (from_column self.now.x (shifted_cells self.now)) (supply_of supply)) }
+        ensures none { IsTrue result → Tiling (all_but (shifted_cells self.now)) 8 (supply_of supply) → ⊥ }
     {
         self.cells.has_uneven_start() || self.cells.has_wrong_parity(supply)
     }
