@@ -46,10 +46,10 @@ pub takes-returns-then-count_of-eq0 : goal.takes-returns-then-count_of-eq0
 takes-returns-then-count_of-eq0 t c = (λ e. absurd (false≢true e), λ takes. absurd (omega (arith, takes.has, c.count_of.ensures, c.if-count_of-eq0.true)))
 
 pub recall-returns-then-has_uneven_start : goal.recall-returns-then-has_uneven_start
-recall-returns-then-has_uneven_start t c = (λ e. absurd (false≢true e), λ tiling. absurd (c.has_uneven_start.ensures c.if-has_uneven_start.true (supply_of c.args.supply) tiling))
+recall-returns-then-has_uneven_start t c = (λ e. absurd (false≢true e), λ tiling. absurd (c.has_uneven_start.ensures.none c.if-has_uneven_start.true (supply_of c.args.supply) tiling))
 
 pub recall-returns-then-has_wrong_parity : goal.recall-returns-then-has_wrong_parity
-recall-returns-then-has_wrong_parity t c = (λ e. absurd (false≢true e), λ tiling. absurd (c.has_wrong_parity.ensures c.if-has_wrong_parity.true tiling))
+recall-returns-then-has_wrong_parity t c = (λ e. absurd (false≢true e), λ tiling. absurd (c.has_wrong_parity.ensures.none c.if-has_wrong_parity.true tiling))
 
 pub covers-returns-then-takes : goal.covers-returns-then-takes
 covers-returns-then-takes t c = (λ _. fills_taken _ _ _ 0 c.args.y (cells_small c.args.cells.now) (c.if-takes.ensures.0 refl), λ _. refl)

@@ -86,7 +86,7 @@ search-returns-then-is_without_room t c = search rules
 pub search-returns-then-is_refused : goal.search-returns-then-is_refused
 search-returns-then-is_refused t c = let supply = supply_of c.args.supply in let E = shifted_cells c.args.cells.now in
     adds_none c.args.self.now.listing (GoesOn HasFirst supply E) (GoesOn IsAny supply E) (λ path found goes.
-    subst (λ (G : Field). CanFill 8 supply G → ⊥) c.in-Some.ensures.0 (c.is_refused.ensures c.if-is_refused.true) (goes_fills supply E path found (shifted_small c.args.cells.now) goes))
+    subst (λ (G : Field). CanFill 8 supply G → ⊥) c.in-Some.ensures.0 (c.is_refused.ensures.none c.if-is_refused.true) (goes_fills supply E path found (shifted_small c.args.cells.now) goes))
 
 pub search-returns : goal.search-returns
 search-returns t c = search rules
