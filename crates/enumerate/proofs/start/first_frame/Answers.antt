@@ -11,7 +11,7 @@ use Rattle.enumerate.proofs.start.first_frame.Goals as goal
 use Rattle.enumerate.proofs.start.first_frame.Goals.{in-None, in-Some}
 
 pub invariant_of-setup-clause-bounded : goal.invariant_of-setup-clause-bounded
-invariant_of-setup-clause-bounded c = record { none = (filled-low c.args.problem.now.well c.args.problem.now.height (omega (arith, c.requires.low)) c.requires.below).none }
+invariant_of-setup-clause-bounded c = record { none = (filled-low c.args.problem.now.well c.args.problem.now.height (omega (arith, c.requires.field.fit.low)) c.requires.field.below).none }
 
 pub invariant_of-setup-clause-supplied : goal.invariant_of-setup-clause-supplied
 invariant_of-setup-clause-supplied c = c.new-supply.ensures ∙ ap supply_in c.supply.ensures ∙ supplies-read (queues_in_play c.match-queue.queues) (c.saturating_sub-left.result + 1)
