@@ -19,6 +19,7 @@ use Rattle.pc_outside.specs.declared.answers.Refused.TheVariants as refused
 use Rattle.problem.specs.declared.fault.ProblemFault.{ProblemFault}
 use Rattle.problem.specs.declared.problem.Problem.{Problem}
 use Rattle.problem.specs.Faults.{IsFirstFault}
+use Rattle.problem.specs.Problem.{IsFit}
 use Rattle.problem.specs.Solution.{IsSolution}
 use Rattle.calling.specs.declared.bot.KeyedPlacement.{KeyedPlacement}
 
@@ -43,8 +44,8 @@ pub record IsBotProblem (well : Well) (height : ℕ) (queue : List Piece) (probl
   pub soft : problem.drop_mode ≡ Soft
   pub srs : table_of problem.rules ≡ srs_table
 
--- The first move, or what keeps the problem from being fit. Want of memory may come at any time.
+-- The first move, or what keeps the problem from being fit. Want of memory may come only where the problem is fit.
 abbrev pub IsBotAnswer : Problem → Result (Option KeyedPlacement) (Refused ProblemFault) → Type 0
 IsBotAnswer problem (Ok found) = IsFirstMove problem found
 IsBotAnswer problem (Err (refused.Fault fault)) = IsFirstFault problem fault
-IsBotAnswer problem (Err refused.NoMemory) = Unit {0}
+IsBotAnswer problem (Err refused.NoMemory) = IsFit problem

@@ -22,7 +22,7 @@ returns-in_err-first_move c =
     let refused = err_from_is_err_and c.from_residual.result c.from_residual.ensures.1 in (
       problem,
       is_bot_problem c.args.well c.args.height c.args.queue.now.items pattern rules c.from_queue-pattern.ensures c.srs-rules.ensures,
-      subst (IsBotAnswer problem) (sym refused.1) (subst (λ fault. IsBotAnswer problem (Err fault)) (sym refused.2) tt),
+      subst (IsBotAnswer problem) (sym refused.1) (subst (λ fault. IsBotAnswer problem (Err fault)) (sym refused.2) c.in-Ok.ensures.1),
     )
 
 pub returns : goal.returns
