@@ -1,3 +1,2 @@
 -- Lemmas that the crates above cite.
 pub use Rattle.cover.proofs.LawLemmas.{covered-solved, solved-permits}
-pub use Rattle.cover.proofs.CoveredExists.{covered-list}

@@ -35,9 +35,6 @@ pub record BeginAlike (queues : List (List Piece)) (count : ℕ) (queue : List P
   pub same : ShareFront queues count queue number (last + 1)
 
 module _ (queues : List (List Piece)) (count : ℕ) (queue : List Piece) (number : ℕ) (rising : IsStrictlySortedBy queue_cmp queues) (there : slice_get queues number ≡ Some queue) where
-  pub alike-starts : BeginAlike queues count queue number number (length queues) 1
-  alike-starts = search (rules, (slice_get_within queues number queue there), (slice_get queues))
-
   -- one more that begins alike
   pub alike-goes_on : (last end step next more : ℕ) (last_queue : List Piece) → BeginAlike queues count queue number last end step → last < next → next < end → 1 ≤ more
       → slice_get queues next ≡ Some last_queue → HasSameFront count queue last_queue → BeginAlike queues count queue number next end more
@@ -65,6 +62,3 @@ module _ (queues : List (List Piece)) (count : ℕ) (queue : List Piece) (number
       ];
     };
   }
-
-  pub alike-stops : (last end step next : ℕ) → BeginAlike queues count queue number last end step → last < next → next < end → BeginAlike queues count queue number last next step
-  alike-stops last end step next so_far later before = search rules

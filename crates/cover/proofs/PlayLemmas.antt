@@ -1,5 +1,5 @@
 -- A sequence clears a field where its first placement is a place there and the others clear what is left.
-use Rattle.std.proofs.Common.{◌≡◌, ℕ, ◌+◌, ◌-◌, ◌≤◌, true, List, [], ◌∷◌, sym, subst, arith, rules}
+use Rattle.std.proofs.Common.{◌≡◌, ℕ, ◌+◌, ◌-◌, ◌≤◌, true, List, ◌∷◌, sym, subst, arith}
 use Rattle.srs.specs.declared.placement.Placement.{Placement}
 use Rattle.srs.specs.Kick.{Table}
 use Rattle.lane_board.specs.Field.{Field}
@@ -27,12 +27,6 @@ module _ (table : Table) (mode : DropMode) (start F : Field) (height rows : ℕ)
   plays-split : Plays table mode start height whole → Plays table mode F rows (q ∷ more)
   plays-split plays = subst (Plays table mode F rows) split (so_far.goes plays)
 
-  pub no-place : (IsPlace table F mode q → ⊥) → Plays table mode start height whole → ⊥
-  no-place none plays = none (plays-split plays).0
-
-  pub not-below : (is_below rows q ≡ true → ⊥) → Plays table mode start height whole → ⊥
-  not-below none plays = none (plays-split plays).1
-
   pub played-goes_on : (G : Field) (left : ℕ) → IsPlace table F mode q → is_below rows q ≡ true → G ≡ locked F q → left ≡ rows - rows_removed F q → next ≡ now + 1
       → IsPlayed table mode start height whole G left more before next (done + 1)
   played-goes_on G left place below is fewer counted = record {
@@ -44,11 +38,3 @@ module _ (table : Table) (mode : DropMode) (start F : Field) (height rows : ℕ)
     rose = omega (arith, so_far.rose, counted);
     few = omega (arith, so_far.few, counted);
   }
-
-module _ (table : Table) (mode : DropMode) (start F : Field) (height rows : ℕ) (whole rest : List Placement) (before now done : ℕ)
-    (so_far : IsPlayed table mode start height whole F rows rest before now done) (all : rest ≡ []) where
-  pub played-full : rows ≡ 0 → Plays table mode start height whole
-  played-full none = search rules
-
-  pub played-left : (rows ≡ 0 → ⊥) → Plays table mode start height whole → ⊥
-  played-left some plays = some (subst (Plays table mode F rows) all (so_far.goes plays)).0

@@ -77,7 +77,7 @@ impl CoverSet {
 
     /// Keeps the kinds of a sequence if it clears the field of the problem, and returns whether it does. Counts at most
     /// one flood for each placement. The only refusal is that memory runs out, and the set is then unchanged. A
-    /// sequence that leaves cells is never refused.
+    /// sequence that doesn't clear it is never refused.
     pub fn add<L: Ledger>(
         &mut self,
         sequence: &Sequence,
