@@ -1,5 +1,6 @@
 -- Lines are read as what they spell, and the fault that is reported is that of the first line that spells nothing.
 use Rattle.std.proofs.Common.{◌≡◌, ◌↔◌, ℕ, zero, suc, ◌+◌, ◌<◌, ◌≤◌, true, false, nat_le, nat_lt, List, [], ◌∷◌, ◌++◌, length, take, drop, get_or, Result, Ok, Err, refl, sym, ap, subst, ◌∙◌, inl, inr, arith, lt-ltb, le-ltb, ltb-true, ltb-false, rules}
+use Rattle.std.specs.Char.{is_ascii_digit}
 use Rattle.std.specs.List.{list_all}
 use Rattle.std.specs.Cmp.Lexicographic.{bytes_decides}
 use Rattle.std.proofs.lemmas.Bool.{cases_Bool, and_parts, and_from, both_ways, le-leb, leb-true, or_cases, or_left, or_right}
@@ -13,7 +14,7 @@ use Rattle.sequence_text.proofs.CallerLemmas.{read_is_spelled, spelled_is_read}
 use Rattle.pc_faults.specs.declared.cover_fault.CoverFault.{CoverFault}
 use Rattle.pc_faults.specs.declared.cover_fault.CoverKind.{CoverKind}
 use Rattle.pc_faults.specs.declared.cover_fault.CoverKind.TheVariants.{BadSequence}
-use Rattle.pc_cover.specs.Given.{Given, fault_in_line, given_from, given_in, is_count, is_counted, is_digit, is_tail, read_in_line, numbered_sequence}
+use Rattle.pc_cover.specs.Given.{Given, fault_in_line, given_from, given_in, is_count, is_counted, is_tail, read_in_line, numbered_sequence}
 use Rattle.pc_cover.specs.Spelling.{IsCount, IsFaultOfLine, IsGivenFault, IsName, IsTail, SpellsGiven, SpellsLines, none, passed, more}
 use Rattle.pc_cover.proofs.GivenLemmas.{given-passed, given-taken, given-refused}
 
@@ -22,21 +23,21 @@ use Rattle.pc_cover.proofs.GivenLemmas.{given-passed, given-taken, given-refused
 abbrev IsDigit : ℕ → Type 0
 IsDigit byte = (48 ≤ byte) × (byte ≤ 57)
 
-digit-within : (byte : ℕ) → is_digit byte ≡ true → IsDigit byte
+digit-within : (byte : ℕ) → is_ascii_digit byte ≡ true → IsDigit byte
 digit-within byte digit = let parts = and_parts (nat_le 48 byte) (nat_le byte 57) digit in (leb-true 48 byte parts.0, leb-true byte 57 parts.1)
 
-within-digit : (byte : ℕ) → IsDigit byte → is_digit byte ≡ true
+within-digit : (byte : ℕ) → IsDigit byte → is_ascii_digit byte ≡ true
 within-digit byte within = and_from (nat_le 48 byte) (nat_le byte 57) (le-leb 48 byte within.0) (le-leb byte 57 within.1)
 
-each-digit : (text : List ℕ) → list_all is_digit text ≡ true → (k d : ℕ) → k < length text → IsDigit (get_or text k d)
+each-digit : (text : List ℕ) → list_all is_ascii_digit text ≡ true → (k d : ℕ) → k < length text → IsDigit (get_or text k d)
 each-digit [] all k d within = absurd (omega arith)
-each-digit (byte ∷ text) all zero d within = digit-within byte (and_parts (is_digit byte) (list_all is_digit text) all).0
-each-digit (byte ∷ text) all (suc k) d within = each-digit text (and_parts (is_digit byte) (list_all is_digit text) all).1 k d (omega arith)
+each-digit (byte ∷ text) all zero d within = digit-within byte (and_parts (is_ascii_digit byte) (list_all is_ascii_digit text) all).0
+each-digit (byte ∷ text) all (suc k) d within = each-digit text (and_parts (is_ascii_digit byte) (list_all is_ascii_digit text) all).1 k d (omega arith)
 
-digits-all : (text : List ℕ) → ((k d : ℕ) → k < length text → IsDigit (get_or text k d)) → list_all is_digit text ≡ true
+digits-all : (text : List ℕ) → ((k d : ℕ) → k < length text → IsDigit (get_or text k d)) → list_all is_ascii_digit text ≡ true
 digits-all [] each = refl
 digits-all (byte ∷ text) each =
-    and_from (is_digit byte) (list_all is_digit text) (within-digit byte (each 0 byte (omega arith))) (digits-all text (λ k d within. each (suc k) d (omega arith)))
+    and_from (is_ascii_digit byte) (list_all is_ascii_digit text) (within-digit byte (each 0 byte (omega arith))) (digits-all text (λ k d within. each (suc k) d (omega arith)))
 
 count-is : (text : List ℕ) → is_count text ≡ true → IsCount text
 unfolding is_count

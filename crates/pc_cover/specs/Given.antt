@@ -1,6 +1,7 @@
 -- How the lines of the source are read. The law `lines_are_read_as_they_spell` says that what is read is what they
 -- spell, and that the fault is that of the first line that spells nothing.
 use Rattle.std.specs.Prelude.{ℕ, ◌+◌, Bool, ◌&&◌, ◌||◌, nat_le, nat_lt, if◌then◌else◌, List, [], ◌∷◌, codes, drop, length, take, Result, Ok, Err}
+use Rattle.std.specs.Char.{is_ascii_digit}
 use Rattle.std.specs.List.{list_all}
 use Rattle.std.specs.Str.{bytes_eq}
 use Rattle.srs.specs.declared.placement.Placement.{Placement}
@@ -12,11 +13,8 @@ use Rattle.pc_faults.specs.declared.cover_fault.CoverKind.{CoverKind}
 use Rattle.pc_faults.specs.declared.cover_fault.CoverKind.TheVariants.{BadSequence, TooManySequences}
 
 -- one to twenty decimal digits
-abbrev pub is_digit : ℕ → Bool
-is_digit byte = nat_le 48 byte && nat_le byte 57
-
 unfoldable pub is_count : List ℕ → Bool
-is_count text = nat_lt 0 (length text) && (nat_le (length text) 20 && list_all is_digit text)
+is_count text = nat_lt 0 (length text) && (nat_le (length text) 20 && list_all is_ascii_digit text)
 
 -- a name with its blank, and a count
 unfoldable pub is_counted : List ℕ → List ℕ → Bool

@@ -13,10 +13,11 @@ pub record IsCount (text : List ℕ) : Type 0 where
   pub few : length text ≤ 20
   pub digits : All (λ byte. (48 ≤ byte) × (byte ≤ 57)) text
 
--- a line that `path` writes behind its sequences: `end`, `limit` or `floods`, a blank and a count
+-- a name with its blank
 abbrev pub IsName : List ℕ → Type 0
 IsName name = (name ≡ codes "end ") ⊎ (name ≡ codes "limit ") ⊎ (name ≡ codes "floods ")
 
+-- a line that `path` writes behind its sequences: `end`, `limit` or `floods`, a blank and a count
 pub record IsTail (line : List ℕ) : Type 0 where
   pub name : List ℕ
   pub named : IsName name

@@ -1,8 +1,9 @@
 // The sequences that the lines of the source spell.
 ghost use Rattle.std.specs.Prelude.{◌≡◌, ◌<◌, ◌≤◌, ◌^◌, IfErr, OnOk, length, map};
+ghost use Rattle.std.specs.Char.{is_ascii_digit};
 ghost use Rattle.std.specs.List.{list_all};
 ghost use Rattle.fumen_digits.specs.ReadResults.{Gives, Reads};
-ghost use Rattle.pc_cover.specs.Given.{given_in, is_count, is_counted, is_digit, is_tail, numbered_sequence};
+ghost use Rattle.pc_cover.specs.Given.{given_in, is_count, is_counted, is_tail, numbered_sequence};
 ghost use Rattle.pc_cover.specs.LineSteps.{ReadsLine, RefusesLine};
 ghost use Rattle.pc_cover.specs.Sequences.{listed_placements};
 
@@ -14,13 +15,13 @@ use sequence_text::sequence_in;
 use std::alloc::Global;
 
 /// The most sequences that are read.
-const MOST_SEQUENCES: usize = 100_000;
+const MOST_GIVEN: usize = 100_000;
 
 /// Whether all bytes are decimal digits.
 fn are_digits(text: &[u8]) -> bool
-    ensures { result ≡ list_all is_digit text.now }
+    ensures { result ≡ list_all is_ascii_digit text.now }
 {
-    text.iter().all(|byte| matches!(*byte, b'0'..=b'9'))
+    text.iter().all(|byte| byte.is_ascii_digit())
 }
 
 /// Whether a text is one to twenty decimal digits.
@@ -67,7 +68,7 @@ fn sequence_at(number: u32, count: usize, needed: u8, line: &[u8]) -> Result<Seq
     ensures { Reads (λ sequence. sequence.items) (λ fault. fault) result
         (numbered_sequence needed number count line.now) }
 {
-    if count >= MOST_SEQUENCES {
+    if count >= MOST_GIVEN {
         return Err(CoverFault {
             line: number,
             kind: CoverKind::TooManySequences,
