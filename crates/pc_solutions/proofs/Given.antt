@@ -1,5 +1,5 @@
--- The numbers of a solution may be given.
-use Rattle.std.proofs.Common.{ℕ, ◌-◌, List, [], ◌∷◌, All, None, rules}
+-- The numbers of a solution may be given, and what is given for the needed length.
+use Rattle.std.proofs.Common.{◌≡◌, ℕ, ◌-◌, List, [], ◌∷◌, All, Option, None, sym, subst, rules}
 use Rattle.std.proofs.lemmas.List.Elements.{All-cons, All-nil}
 use Rattle.lane_board.specs.Field.{Field}
 use Rattle.srs.specs.declared.placement.Placement.{Placement}
@@ -15,6 +15,8 @@ use Rattle.problem.specs.Plays.{Plays}
 use Rattle.problem.specs.Problem.{IsFit, needed_of}
 use Rattle.problem.specs.Solution.{IsSolution}
 use Rattle.problem.proofs.CallerLemmas.{long-needed}
+use Rattle.pc_path.specs.Output.{IsGiven}
+use Rattle.pc_solutions.specs.Asked.{IsAfter}
 
 played_within : (table : Table) (mode : DropMode) (F : Field) (rows : ℕ) (sequence : List Placement) → Plays table mode F rows sequence → All HasPivotInWell sequence
 played_within table mode F rows [] plays = All-nil HasPivotInWell
@@ -25,3 +27,9 @@ played_within table mode F rows (q ∷ rest) plays =
 
 pub solution_numbers : (problem : Problem) (sequence : List Placement) → IsFit problem → IsSolution problem None sequence → AreNumbersOf (needed_of problem) (sequence_numbers sequence) sequence
 solution_numbers problem sequence fit solution = search (rules, long-needed, played_within)
+
+-- the length is the needed one
+pub given_needed : (length all : ℕ) (numbers : List ℕ) (text : Option (List ℕ)) (listed after : Option (List Placement)) → length ≡ all → IsGiven all text listed
+    → ((text : Option (List ℕ)) → IsGiven length text listed → IsAfter length numbers text after) → IsAfter all numbers text after
+given_needed length all numbers text listed after same given goes =
+    subst (λ n. IsAfter n numbers text after) same (goes text (subst (λ n. IsGiven n text listed) (sym same) given))

@@ -1,5 +1,5 @@
 -- What is asked: the problem of a request without a fault, and the sequence after which its solutions are listed.
-use Rattle.std.specs.Prelude.{◌≡◌, ◌≢◌, ℕ, ◌*◌, ◌<◌, List, [], ◌∷◌, Option, Some, None}
+use Rattle.std.specs.Prelude.{◌≡◌, ◌≢◌, ℕ, ◌*◌, ◌<◌, ◌≤◌, List, [], ◌∷◌, Option, Some, None}
 use Rattle.lane_board.specs.Field.{Field}
 use Rattle.srs.specs.declared.placement.Placement.{Placement}
 use Rattle.placement_numbers.specs.Numbers.{AreNumbersOf}
@@ -39,3 +39,11 @@ pub record HasNoRoom (request : PathRequest) (bytes numbers : List ℕ) (room : 
   pub after : Option (List Placement)
   pub given : IsAfter (needed_of problem) numbers request.after after
   pub short : room < 4 * needed_of problem
+
+-- there is room for the numbers of one solution
+pub record HasRoom (request : PathRequest) (bytes numbers : List ℕ) (room : ℕ) : Type 0 where
+  pub problem : Problem
+  pub asked : IsAsked request bytes problem
+  pub after : Option (List Placement)
+  pub given : IsAfter (needed_of problem) numbers request.after after
+  pub enough : 4 * needed_of problem ≤ room

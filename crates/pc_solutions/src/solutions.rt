@@ -1,5 +1,5 @@
 // The solutions that `path` would list, as numbers.
-ghost use Rattle.std.specs.Prelude.{◌≡◌, ◌≢◌, ℕ, ◌-◌, ◌≤◌, List, [], Option, Some, Err, IfOk, IfErr, OnErr, length, take, drop};
+ghost use Rattle.std.specs.Prelude.{◌≡◌, ◌≢◌, ℕ, ◌-◌, ◌≤◌, ◌⊎◌, List, [], Option, Some, Err, IfOk, IfErr, OnErr, length, take, drop};
 ghost use Rattle.std.specs.Option.{ForSome};
 ghost use Rattle.arrayvec.specs.ArrayVec.{array_vec_len};
 ghost use Rattle.srs.specs.declared.placement.Placement.{Placement};
@@ -9,9 +9,11 @@ ghost use Rattle.enumerate.specs.Items.{items_of};
 ghost use Rattle.pc_faults.specs.declared.fault.Fault.{Fault};
 ghost use Rattle.pc_settings.specs.Request.{IsInRange};
 ghost use Rattle.pc_settings.specs.Views.{path_view};
+ghost use Rattle.pc_source.specs.FieldText.{field_needs};
+ghost use Rattle.pc_source.specs.Task.{nothing};
 ghost use Rattle.pc_path.specs.Faults.{path_fault};
 ghost use Rattle.pc_path.specs.Output.{IsGiven};
-ghost use Rattle.pc_solutions.specs.Asked.{HasNoRoom, HasNoSequence, IsAfter, IsAsked};
+ghost use Rattle.pc_solutions.specs.Asked.{HasNoRoom, HasNoSequence, HasRoom, IsAfter, IsAsked};
 ghost use Rattle.pc_solutions.specs.Refusals.{IsFaultOrMemory};
 ghost use Rattle.pc_solutions.specs.Written.{WritesSolutions};
 
@@ -31,7 +33,7 @@ use std::sync::ledger::Ledger;
 #[derive(Clone, Copy, Debug, PartialEq, Eq)]
 pub enum Refusal {
     /// The input has a fault; this is the first one that `path` finds.
-    Input(Fault),
+    Fault(Fault),
     /// The numbers are not those of a sequence of as many placements as a solution has.
     NoSequence,
     /// There is not room for the numbers of one solution.
@@ -51,10 +53,11 @@ fn asked(alloc: Global, settings: &PathSettings<'_>, bytes: &[u8]) -> Result<Lis
         ForSome listing.after (λ sequence. array_vec_len sequence ≡ needed_of listing.problem)) }
     ensures refused { IfErr result
         (λ refusal. IsFaultOrMemory (path_fault (path_view settings.now) bytes.now) refusal) }
+    ensures memory { result ≡ Err Refusal.NoMemory → field_needs (path_view settings.now).common.field ≢ nothing }
 {
     match listing_of(alloc, settings, bytes) {
         Ok(listing) => Ok(listing),
-        Err(Refused::Fault(fault)) => Err(Refusal::Input(fault)),
+        Err(Refused::Fault(fault)) => Err(Refusal::Fault(fault)),
         Err(Refused::NoMemory) => Err(Refusal::NoMemory),
     }
 }
@@ -86,7 +89,8 @@ fn list_after(
 /// Writes the numbers of the solutions that `path` lists for these settings, as many as the limit allows and as
 /// `placements` holds whole. The options that shape text make no difference. The list begins after the sequence that
 /// the numbers of `after` give, or if there are none, after the one that the settings give. `bytes` are those of the
-/// source. A refusal writes nothing and makes no flood.
+/// source. A refusal writes nothing and makes no flood. Memory runs out only if the text of the field takes some, or
+/// where nothing else refuses.
 pub fn write_solutions<L: Ledger>(
     alloc: Global,
     settings: &PathSettings<'_>,
@@ -101,11 +105,13 @@ pub fn write_solutions<L: Ledger>(
         (steps.new - steps.old)) }
     ensures within { IfOk result (λ written. written.size ≤ length placements.new) }
     ensures rest { IfOk result (λ written. drop written.size placements.new ≡ drop written.size placements.old) }
-    ensures fault { (fault : Fault) → result ≡ Err (Refusal.Input fault)
+    ensures fault { (fault : Fault) → result ≡ Err (Refusal.Fault fault)
         → path_fault (path_view settings.now) bytes.now ≡ Some fault }
     ensures no_sequence { result ≡ Err Refusal.NoSequence → HasNoSequence (path_view settings.now) bytes.now after.now }
     ensures no_room { result ≡ Err Refusal.NoRoom
         → HasNoRoom (path_view settings.now) bytes.now after.now (length placements.old) }
+    ensures memory { result ≡ Err Refusal.NoMemory → (field_needs (path_view settings.now).common.field ≢ nothing)
+        ⊎ HasRoom (path_view settings.now) bytes.now after.now (length placements.old) }
     ensures quiet { OnErr result (placements.new ≡ placements.old) }
     ensures idle { OnErr result (steps.new ≡ steps.old) }
     ensures counted { steps.old ≤ steps.new }

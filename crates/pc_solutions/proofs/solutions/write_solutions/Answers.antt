@@ -1,5 +1,5 @@
 -- What is asked, the sequence after which the list begins, the room, and then what one search lists.
-use Rattle.std.proofs.Common.{◌≡◌, ◌∙◌, ◌*◌, ◌-◌, ◌<◌, ◌≤◌, nat_lt, min, length, sym, ap, subst, arith}
+use Rattle.std.proofs.Common.{◌≡◌, ◌∙◌, ◌*◌, ◌-◌, ◌<◌, nat_lt, min, length, sym, ap, subst, inr, arith}
 use Rattle.std.proofs.lemmas.List.{length-take-le}
 use Rattle.placement_numbers.specs.Numbers.{AreNumbersOf}
 use Rattle.problem.specs.Problem.{needed_of}
@@ -7,10 +7,9 @@ use Rattle.problem.specs.SolutionList.{IsList}
 use Rattle.enumerate.specs.Items.{items_of}
 use Rattle.enumerate.specs.ViewOf.{solutions}
 use Rattle.pc_settings.specs.Views.{path_view}
-use Rattle.pc_path.specs.Output.{IsGiven}
 use Rattle.pc_path.specs.Work.{IsSearchOf}
-use Rattle.pc_solutions.specs.Asked.{IsAfter}
 use Rattle.pc_solutions.specs.Written.{most_written}
+use Rattle.pc_solutions.proofs.Given.{given_needed}
 use Rattle.pc_solutions.proofs.Room.{all_fit, most_fit}
 use Rattle.pc_solutions.proofs.solutions.write_solutions.Goals as goal
 
@@ -25,15 +24,28 @@ returns-in_err-after-clause-no_sequence g c = λ is. record {
 pub returns-then-placements-from-clause-no_room : goal.returns-then-placements-from-clause-no_room
 returns-then-placements-from-clause-no_room g c = λ is.
     let text = (path_view c.args.settings.now).after in
+    let problem = c.in_ok-listing.listing.problem in
     let needed = c.needed-needed.ensures in
     record {
-      problem = c.in_ok-listing.listing.problem;
+      problem = problem;
       asked = c.in_ok-listing.ensures.asked;
       after = items_of c.in_ok-after.after;
-      given = subst (λ n. IsAfter n c.args.after.now text (items_of c.in_ok-after.after)) needed
-          (c.in_ok-after.ensures.after text (subst (λ n. IsGiven n text (items_of c.in_ok-listing.listing.after)) (sym needed) c.in_ok-listing.ensures.after));
+      given = given_needed c.needed-needed.result (needed_of problem) c.args.after.now text (items_of c.in_ok-listing.listing.after) (items_of c.in_ok-after.after) needed c.in_ok-listing.ensures.after c.in_ok-after.ensures.after;
       short = omega (arith, c.if-placements-from.true, needed, c.from.ensures);
     }
+
+pub returns-in-Err-clause-memory : goal.returns-in-Err-clause-memory
+returns-in-Err-clause-memory g c = λ is.
+    let text = (path_view c.args.settings.now).after in
+    let problem = c.in_ok-listing.listing.problem in
+    let needed = c.needed-needed.ensures in
+    inr (record {
+      problem = problem;
+      asked = c.in_ok-listing.ensures.asked;
+      after = items_of c.in_ok-after.after;
+      given = given_needed c.needed-needed.result (needed_of problem) c.args.after.now text (items_of c.in_ok-listing.listing.after) (items_of c.in_ok-after.after) needed c.in_ok-listing.ensures.after c.in_ok-after.ensures.after;
+      enough = omega (arith, c.if-placements-from.false, needed, c.from.ensures);
+    })
 
 pub write_list-requires-clause-room : goal.write_list-requires-clause-room
 write_list-requires-clause-room g c =
@@ -62,8 +74,7 @@ returns-clause-written g c =
       problem = problem;
       asked = c.in_ok-listing.ensures.asked;
       after = after;
-      given = subst (λ n. IsAfter n c.args.after.now text after) needed
-          (c.in_ok-after.ensures.after text (subst (λ n. IsGiven n text (items_of c.in_ok-listing.listing.after)) (sym needed) c.in_ok-listing.ensures.after));
+      given = given_needed c.needed-needed.result (needed_of problem) c.args.after.now text (items_of c.in_ok-listing.listing.after) after needed c.in_ok-listing.ensures.after c.in_ok-after.ensures.after;
       fits = omega (arith, c.if-placements-from.false, needed, c.from.ensures);
       sequences = solutions search;
       list = subst (λ v. IsList v (solutions search)) c.in-Ok.ensures.view c.in-Ok.ensures.list;
