@@ -57,8 +57,8 @@ pub record RunEnds (words : List (List ℕ)) (origin : SourceChange) (SourceKept
   pub quiet : let task = task_of words in ForBytes task origin.left
       (λ bytes. (fault : Fault) → first_fault task bytes ≡ Some fault → OutKept × (now ≡ before))
   pub input_quiet : (fault : Fault) → status ≡ Input fault → OutKept × (now ≡ before)
-  -- a failed read or write is answered where the count of faults rose, and want of memory where nothing was written if
-  -- all memory is taken first
+  -- a failed read or write is answered only where the count of faults rose, and want of memory only where nothing was
+  -- written if all memory is taken first
   pub source_fault : status ≡ SourceFault → Rose origin.before origin.now × OutKept × (now ≡ before)
   pub sink_fault : let task = task_of words in status ≡ SinkFault → ForBytes task origin.left
       (λ bytes. FailedAfterFront (first_fault task bytes) (task.IsOutput bytes (now - before)) out)

@@ -11,7 +11,7 @@ use moves::DropMode;
 use pc_settings::Format;
 use srs::Piece;
 
-/// The greatest number that a page may have.
+/// The most pages of a list, and so the greatest number of a page.
 const MOST_PAGES: u32 = 10_000;
 
 /// The most sequences that may be written.
