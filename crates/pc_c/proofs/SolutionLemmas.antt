@@ -11,7 +11,8 @@ use Rattle.pc_words.specs.Request.{path}
 use Rattle.pc_words.specs.Words.{asked_in, request_in}
 use Rattle.pc_solutions.specs.declared.list.Written.{Written}
 use Rattle.pc_solutions.specs.declared.solutions.Refusal.{Refusal}
-use Rattle.pc_solutions.specs.declared.solutions.Refusal.TheVariants.{Input, NoSequence, NoRoom, NoMemory}
+use Rattle.pc_solutions.specs.declared.solutions.Refusal.TheVariants as refusals
+use Rattle.pc_solutions.specs.declared.solutions.Refusal.TheVariants.{NoSequence, NoRoom, NoMemory}
 use Rattle.pc_solutions.specs.Asked.{HasNoRoom, HasNoSequence}
 use Rattle.pc_solutions.specs.Written.{WritesSolutions}
 use Rattle.pc_c.specs.Answered.{answer_of}
@@ -35,14 +36,14 @@ module _ (words : List (List ℕ)) (input : List ℕ) (request : PathRequest)
   pub path_answered : (numbers before after : List ℕ) (old new : ℕ) (result : Result Written Refusal)
       → IfOk result (λ w. WritesSolutions request bytes numbers (length before) (take w.size after) w.count w.ended (new - old))
       → IfOk result (λ w. w.size ≤ length after) → IfOk result (λ w. drop w.size after ≡ drop w.size before)
-      → ((fault : Fault) → result ≡ Err (Input fault) → path_fault request bytes ≡ Some fault)
+      → ((fault : Fault) → result ≡ Err (refusals.Fault fault) → path_fault request bytes ≡ Some fault)
       → (result ≡ Err NoSequence → HasNoSequence request bytes numbers)
       → (result ≡ Err NoRoom → HasNoRoom request bytes numbers (length before))
       → OnErr result (after ≡ before) → OnErr result (new ≡ old)
       → IsPathAnswer words input numbers before after (new - old) (answer_of result)
   path_answered numbers before after old new (Ok w) writes fits rest faulty unsequenced roomless kept idle =
       (asked writes.asked.none writes, fits, rest)
-  path_answered numbers before after old new (Err (Input fault)) writes fits rest faulty unsequenced roomless kept idle =
+  path_answered numbers before after old new (Err (refusals.Fault fault)) writes fits rest faulty unsequenced roomless kept idle =
       ((faulty_asked path is_path request refl words input same reads bytes is given within fault (faulty fault refl), none_added old new idle), kept)
   path_answered numbers before after old new (Err NoSequence) writes fits rest faulty unsequenced roomless kept idle =
       let has = unsequenced refl in

@@ -3,7 +3,7 @@ use Rattle.std.specs.Prelude.{◌≡◌, ℕ, ◌≤◌, List, length, take, dro
 use Rattle.pc_words.specs.Request.{path}
 use Rattle.pc_solutions.specs.declared.list.Written.{Written}
 use Rattle.pc_solutions.specs.declared.solutions.Refusal.{Refusal}
-use Rattle.pc_solutions.specs.declared.solutions.Refusal.TheVariants.{Input, NoSequence, NoRoom, NoMemory}
+use Rattle.pc_solutions.specs.declared.solutions.Refusal.TheVariants.{Fault, NoSequence, NoRoom, NoMemory}
 use Rattle.pc_solutions.specs.Written.{WritesSolutions}
 use Rattle.pc_c.specs.declared.answer.Answer.{Answer}
 use Rattle.pc_c.specs.Answered.{HasAskedFault, IsAnswer}
@@ -13,7 +13,7 @@ use Rattle.pc_c.specs.Solutions.{LacksRoom, LacksSequence}
 
 -- why there are no solutions
 abbrev pub IsPathRefusal : (words : List (List ℕ)) (input numbers : List ℕ) (room : ℕ) → Refusal → Type 0
-IsPathRefusal words input numbers room (Input fault) = HasAskedFault is_path words input fault
+IsPathRefusal words input numbers room (Fault fault) = HasAskedFault is_path words input fault
 IsPathRefusal words input numbers room NoSequence = LacksSequence words input numbers
 IsPathRefusal words input numbers room NoRoom = LacksRoom words input numbers room
 IsPathRefusal words input numbers room NoMemory = Unit {0}

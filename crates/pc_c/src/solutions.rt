@@ -64,14 +64,14 @@ fn answer_words<L: Ledger>(
     let mut steps = Steps::<L>::new(blank);
     let settings = match read_words(words) {
         Ok(settings) => settings,
-        Err(fault) => return idle(Answer::Unwritten(Refusal::Input(fault))),
+        Err(fault) => return idle(Answer::Unwritten(Refusal::Fault(fault))),
     };
     let Some(settings) = of_path(settings) else {
         return idle(Answer::OtherCommand);
     };
     let bytes = match seen_bytes(input, is_of_source(settings.common.field)) {
         Ok(bytes) => bytes,
-        Err(fault) => return idle(Answer::Unwritten(Refusal::Input(fault))),
+        Err(fault) => return idle(Answer::Unwritten(Refusal::Fault(fault))),
     };
     let written = write_solutions(alloc, &settings, bytes, after, placements, &mut steps);
     Answered {
@@ -138,7 +138,7 @@ fn run_solutions(
             ..quiet(DONE)
         },
         Answer::OtherCommand => quiet(OTHER_COMMAND),
-        Answer::Unwritten(Refusal::Input(fault)) => SolutionsEnded {
+        Answer::Unwritten(Refusal::Fault(fault)) => SolutionsEnded {
             told: write_line(fault, err),
             ..quiet(FAULT)
         },
