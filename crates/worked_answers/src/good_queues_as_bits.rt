@@ -1,13 +1,10 @@
 // The bits of one pattern, in enough room and in too little.
 ghost use Rattle.std.specs.Prelude.{◌≡◌, ◌<◌};
 
-use crate::questions::is_so;
-use hold_queue::Hold;
-use moves::DropMode;
+use crate::questions::{is_so, one_row};
 use pc_good_queues::{NoBits, QueueCounts, bytes_for, write_good_queues};
-use pc_settings::{FieldSettings, FieldWords, PercentSettings};
+use pc_settings::PercentSettings;
 use reach::Steps;
-use srs::Rules;
 use std::alloc::Global;
 use std::marker::Brand;
 use std::sync::ledger::{Blank, Ledger};
@@ -19,16 +16,7 @@ fn asked<L: Ledger>(alloc: Global, blank: Blank, bits: &mut [u8]) -> Result<Queu
     requires some { 0 < blank.parts }
 {
     let settings = PercentSettings {
-        common: FieldSettings {
-            field: FieldWords::Rows("XXXXXX____"),
-            page: 1,
-            height: 1,
-            patterns: "*p2",
-            hold: Hold::Allowed,
-            held: None,
-            drop_mode: DropMode::Soft,
-            rules: Rules::srs(),
-        },
+        common: one_row("*p2"),
         failed: 0,
     };
     let mut steps = Steps::<L>::new(blank);

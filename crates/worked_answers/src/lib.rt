@@ -21,3 +21,5 @@ mod questions;
 mod searches;
 #[cfg(test)]
 mod small_fields;
+#[cfg(test)]
+mod solutions_as_numbers;

@@ -1,12 +1,14 @@
 // The problems that tests ask about, and what they assert.
+ghost use Rattle.std.specs.Prelude.{◌≡◌};
 ghost use Rattle.problem.specs.Problem.{IsFit};
 
 use hold_queue::Hold;
 use kick_file::parse;
 use moves::DropMode;
+use pc_settings::{FieldSettings, FieldWords};
 use problem::Problem;
 use queue_pattern::Pattern;
-use srs::Piece;
+use srs::{Piece, Rules};
 use std::process::Abort;
 use well::Well;
 
@@ -34,6 +36,23 @@ pub fn problem_by(rt: &impl Abort, rows: &[u8], height: u8, pattern: &str, way: 
     let pattern = Pattern::parse(pattern).expect(rt, "a pattern");
     let rules = parse(kicks).expect(rt, "a table of offsets");
     Problem::new(well, height, pattern, hold, held, drop_mode, rules).expect(rt, "a fit problem")
+}
+
+/// One row that an `I` clears, and the queues of this pattern, with hold.
+pub fn one_row(patterns: &str) -> FieldSettings<'_>
+    ensures page { result.page ≡ 1 }
+    ensures height { result.height ≡ 1 }
+{
+    FieldSettings {
+        field: FieldWords::Rows("XXXXXX____"),
+        page: 1,
+        height: 1,
+        patterns,
+        hold: Hold::Allowed,
+        held: None,
+        drop_mode: DropMode::Soft,
+        rules: Rules::srs(),
+    }
 }
 
 /// Asserts that something is so.
