@@ -92,7 +92,7 @@ fn answered<L: Ledger>(
     known.merged(alloc, &found)
 }
 
-/// The same for hands about which nothing is known there. All answers are kept.
+/// The same for hands about which nothing is known there. The answers are kept if there is room for them.
 #[cycle(search)]
 fn searched<L: Ledger>(
     alloc: Global,

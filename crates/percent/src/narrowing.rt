@@ -97,7 +97,7 @@ impl Marks {
     }
 
     /// Leaves out tilings of one mark that serve no hand, where it has more hands than are tested at once, and so each
-    /// tiling would be looked at for each 64 of them. With hard drops all stay.
+    /// tiling would be looked at for each 64 of them. With hard drops by the Super Rotation System all stay.
     fn narrow_at_once(
         &mut self,
         alloc: Global,
@@ -127,8 +127,8 @@ impl Marks {
     }
 
     /// Notes which hands with the pieces of one mark are bad, and leaves out its tilings that serve none of them. With
-    /// hard drops, where that costs more than it spares, all stay. `NoMemory` if there is not enough for a flag for each
-    /// tiling.
+    /// hard drops by the Super Rotation System, where that costs more than it spares, all stay. `NoMemory` if there is
+    /// not enough for a flag for each tiling.
     fn narrow_mark(
         &mut self,
         alloc: Global,

@@ -13,8 +13,9 @@ use well::Well;
 pub struct Position {
     pub well: Well,
     pub rows: u8,
+    /// How rough the well is (`order::roughness`), or 0 at first.
     pub roughness: u32,
-    /// The column of the last placement.
+    /// The column of the last placement, or 0 at first.
     pub near: u8,
     ghost few: { rows ≤ 8 },
     ghost below: { LiesBelow (filled well) rows },
@@ -26,7 +27,7 @@ pub struct Position {
 pub struct Child {
     pub placement: Placement,
     pub position: Position,
-    /// In which of the marks' tilings the placement stands. Bit `k` stands for mark `k`.
+    /// In which of the marks' tilings the placement may stand. Bit `k` stands for mark `k`.
     pub standing: u64,
 }
 
