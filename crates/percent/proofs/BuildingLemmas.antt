@@ -1,5 +1,5 @@
 -- Hands that no listed tiling of their mark serves are not good. Of the others the tilings that serve them are used.
-use Rattle.std.proofs.Common.{◌≡◌, ◌↔◌, ℕ, ◌+◌, ◌<◌, ◌≤◌, ◌==◌, ◌||◌, ◌/◌, Bool, true, false, not, bit_and, bit_xor, List, [], ◌∷◌, ◌++◌, length, length-append, length-set, get_or, take, refl, sym, ap, subst, ◌∙◌, inl, inr, arith, div-one}
+use Rattle.std.proofs.Common.{◌≡◌, ◌↔◌, ℕ, ◌+◌, ◌<◌, ◌≤◌, ◌==◌, ◌&&◌, ◌||◌, ◌/◌, Bool, true, false, not, List, [], ◌∷◌, ◌++◌, length, length-append, length-set, get_or, take, refl, sym, ap, subst, ◌∙◌, inl, inr, arith, div-one}
 use Rattle.std.proofs.Common.{set as list_set}
 use Rattle.std.specs.Prelude.{All, Contains, Some, slice_get}
 use Rattle.std.proofs.lemmas.Bool.{and_parts, cases_eq, cases_lt, eq-eqb, eqb-true, false≢true, not-false, not-true, or_left, or_parts, or_right, true_from_ne_false}
@@ -9,7 +9,7 @@ use Rattle.std.proofs.lemmas.List.Elements.{All-set, Contains-append_left, Conta
 use Rattle.std.proofs.lemmas.Option.{get_or_from_slice_get, slice_get_read, slice_get_within}
 use Rattle.lane_board.specs.Field.{Field}
 use Rattle.lane_board.specs.Lanes.{has_bit}
-use Rattle.lane_board.proofs.CallerLemmas.{has_bit-and_not, has_bit-zero}
+use Rattle.lane_board.proofs.CallerLemmas.{has_bit-zero}
 use Rattle.well.specs.Well.{filled}
 use Rattle.hands.specs.declared.hand_set.HandSet.{HandSet}
 use Rattle.hands.specs.HandSets.{has}
@@ -37,17 +37,19 @@ pub record Pending (list : List ListedTiling) (E : Field) (drops : Bool) (weight
   pub closed : (k : ℕ) → has_bit pending k ≡ true → has_bit open_hands k ≡ false
   pub none : (k : ℕ) → k < 64 → has_bit pending k ≡ true → (tiling : ListedTiling) → Contains (take i list) tiling → IsServed tiling E drops weights allowed k → ⊥
 
-pub pending-starts : (list : List ListedTiling) (E : Field) (drops : Bool) (weights allowed : List ℕ) (all open_hands : ℕ) → Pending list E drops weights allowed open_hands (bit_xor all (bit_and all open_hands)) 0
-pending-starts list E drops weights allowed all open_hands = record {
-  closed = λ k there. not-true (has_bit open_hands k) (and_parts (has_bit all k) (not (has_bit open_hands k)) (sym (has_bit-and_not all open_hands k) ∙ there)).1;
+pub pending-starts : (list : List ListedTiling) (E : Field) (drops : Bool) (weights allowed : List ℕ) (all open_hands pending : ℕ) → ((k : ℕ) → has_bit pending k ≡ (has_bit all k && not (has_bit open_hands k)))
+    → Pending list E drops weights allowed open_hands pending 0
+pending-starts list E drops weights allowed all open_hands pending less = record {
+  closed = λ k there. not-true (has_bit open_hands k) (and_parts (has_bit all k) (not (has_bit open_hands k)) (sym (less k) ∙ there)).1;
   none = λ k few there tiling listed. absurd (omega (arith, listed.1));
 }
 
-pub pending-more : (list : List ListedTiling) (E : Field) (drops : Bool) (weights allowed : List ℕ) (open_hands pending i asked served : ℕ) (x : ListedTiling) → i < length list → x ≡ get_or list i x
+pub pending-more : (list : List ListedTiling) (E : Field) (drops : Bool) (weights allowed : List ℕ) (open_hands pending i asked served next : ℕ) (x : ListedTiling) → i < length list → x ≡ get_or list i x
     → ((k : ℕ) → k < 64 → has_bit pending k ≡ true → has_bit asked k ≡ true)
     → ((k : ℕ) → has_bit served k ≡ true ↔ ((has_bit asked k ≡ true) × IsServed x E drops weights allowed k))
-    → Pending list E drops weights allowed open_hands pending i → Pending list E drops weights allowed open_hands (bit_xor pending (bit_and pending served)) (i + 1)
-pending-more list E drops weights allowed open_hands pending i asked served x within at wider both state = record {
+    → ((k : ℕ) → has_bit next k ≡ (has_bit pending k && not (has_bit served k)))
+    → Pending list E drops weights allowed open_hands pending i → Pending list E drops weights allowed open_hands next (i + 1)
+pending-more list E drops weights allowed open_hands pending i asked served next x within at wider both less state = record {
   closed = λ k there. state.closed k (parts k there).0;
   none = λ k few there tiling listed is.
       elim (Contains-push_cases (take i list) (get_or list i x) tiling (subst (λ l. Contains l tiling) (take_more list i x within) listed)) [
@@ -57,8 +59,8 @@ pending-more list E drops weights allowed open_hands pending i asked served x wi
       ];
 }
   where
-    parts : (k : ℕ) → has_bit (bit_xor pending (bit_and pending served)) k ≡ true → (has_bit pending k ≡ true) × (not (has_bit served k) ≡ true)
-    parts k there = and_parts (has_bit pending k) (not (has_bit served k)) (sym (has_bit-and_not pending served k) ∙ there)
+    parts : (k : ℕ) → has_bit next k ≡ true → (has_bit pending k ≡ true) × (not (has_bit served k) ≡ true)
+    parts k there = and_parts (has_bit pending k) (not (has_bit served k)) (sym (less k) ∙ there)
 
 pub pending-ends : (marks : Marks) (mark : Mark) (left : ℕ) (hands weights allowed : List ℕ) (open_hands pending i k : ℕ) → length mark.tilings.tilings.items ≤ i → length hands ≤ 64
     → AreNoted marks.game.hold left hands weights 1 allowed open_hands (length hands)

@@ -9,7 +9,7 @@ use crate::fitting::{Counts, are_same};
 use crate::marks::{Mark, Marks};
 use empty_cells::Empties;
 use hands::{Sums, sums_of, weights_of};
-use lane_board::words::has_bit;
+use lane_board::words::{bits_without, has_bit};
 use tiled_pieces::{ListedTiling, served_hands};
 
 /// Indexes of up to 64 hands with the same mark.
@@ -127,13 +127,13 @@ impl Marks {
         let weights = weights_of(&mark.counts);
         let (allowed, open) = sums_of(self.game.hold, &weights, left, hands, 1);
         let all = lowest(hands.len());
-        let mut pending = all ^ (all & open);
+        let mut pending = bits_without(all, open);
         for index in 0..mark.tilings.tilings.len() {
             let tiling = &mark.tilings.tilings[index];
             let is_used = or_some(used[index], open);
             let asked = asked_about(is_used, pending);
             let served = served_among(tiling, &self.cells, self.drops, &weights, &allowed, asked);
-            pending ^= pending & served;
+            pending = bits_without(pending, served);
             used[index] = or_some(is_used, served);
         }
         pending

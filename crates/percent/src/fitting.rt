@@ -2,7 +2,7 @@
 ghost use Rattle.std.specs.Prelude.{◌≡◌, ◌↔◌, ℕ, ◌≤◌, ◌<◌, ◌&&◌, IsTrue, true, false, IfOk, length, slice_index};
 ghost use Rattle.empty_cells.specs.Empties.{all_but, empty_cells};
 ghost use Rattle.well.specs.Well.{filled};
-ghost use Rattle.prune.specs.Tiling.{Tiling};
+ghost use Rattle.prune.specs.Tiling.{Tiling, supply_in};
 ghost use Rattle.hands.specs.HandSets.{has};
 ghost use Rattle.hands.specs.Numbers.{has_number};
 ghost use Rattle.percent.specs.declared.game.Game.{Game};
@@ -110,12 +110,20 @@ fn greatest_counts(hands: &[u64], pieces: u8) -> Counts
     counts
 }
 
+/// How many pieces there are of each kind, in the order of the kinds.
+#[inline(always)]
+pub fn supply_of(counts: &Counts) -> [u8; 7]
+    ensures { supply_in result ≡ supply_by counts.now }
+{
+    let [_, i, l, o, z, t, j, s] = *counts;
+    [i, l, o, z, t, j, s]
+}
+
 /// Whether pieces with these counts can fill the cells. The search begins at the side nearer to a column.
 fn fills(tilings: &mut TilingStore, cells: &Empties, near: u8, counts: &Counts) -> bool
     ensures { IsTrue result ↔ Tiling (all_but (empty_cells cells.now)) 8 (supply_by counts.now) }
 {
-    let [_, i, l, o, z, t, j, s] = *counts;
-    tilings.has_tiling_near(cells, near, &[i, l, o, z, t, j, s])
+    tilings.has_tiling_near(cells, near, &supply_of(counts))
 }
 
 impl FitMemory {

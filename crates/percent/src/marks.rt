@@ -18,7 +18,7 @@ ghost use Rattle.percent.specs.GoodHands.{is_good};
 ghost use Rattle.percent.specs.Marks.{AreIndexes, HasMarkAt, IsMarkOf, IsStanding, IsTrueMark};
 ghost use Rattle.percent.specs.Spread.{IsSpread};
 
-use crate::fitting::{Counts, FitMemory, are_same, counts_of, fitting};
+use crate::fitting::{Counts, FitMemory, are_same, counts_of, fitting, supply_of};
 use crate::game::Game;
 use crate::position::{Child, Position};
 use empty_cells::Empties;
@@ -66,7 +66,7 @@ pub struct Asked {
 }
 
 /// The counts of the first `pieces` pieces of a hand and of one more piece.
-pub fn counts_with(hand: u64, pieces: u8, piece: Piece) -> Counts
+fn counts_with(hand: u64, pieces: u8, piece: Piece) -> Counts
     requires { pieces ≤ 21 }
     ensures size { length result ≡ 8 }
     ensures each { (code : ℕ) → code < 8 → slice_index result code ≡ codes_with piece pieces hand code }
@@ -87,8 +87,7 @@ fn listed(
 ) -> Option<Mark>
     ensures { IfSome result (IsTrueMark (empty_cells cells.now)) }
 {
-    let [_, i, l, o, z, t, j, s] = counts;
-    let tilings = lister.ordered_tilings(alloc, cells, &[i, l, o, z, t, j, s], most)?;
+    let tilings = lister.ordered_tilings(alloc, cells, &supply_of(&counts), most)?;
     Some(Mark { counts, tilings })
 }
 
@@ -280,7 +279,7 @@ impl Marks {
     }
 
     /// Those of the rests asked about with which a placement may stand in a tiling. The others are not good after it.
-    pub fn likely(
+    fn likely(
         &self,
         alloc: Global,
         child: &Child,

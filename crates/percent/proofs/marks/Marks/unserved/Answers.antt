@@ -8,7 +8,7 @@ use Rattle.percent.proofs.marks.Marks.unserved.Goals as goal
 
 pub loop-index-init : goal.loop-index-init
 loop-index-init c = (
-  pending-starts c.args.mark.now.tilings.tilings.items (empty_cells c.args.self.now.cells) c.args.self.now.drops c.weights_of-weights.result c.sums_of-open.result.0 c.lowest-all.result c.sums_of-open.result.1,
+  pending-starts c.args.mark.now.tilings.tilings.items (empty_cells c.args.self.now.cells) c.args.self.now.drops c.weights_of-weights.result c.sums_of-open.result.0 c.lowest-all.result c.sums_of-open.result.1 c.bits_without-pending.result c.bits_without-pending.ensures.bits,
   using-starts c.args.mark.now.tilings.tilings.items (empty_cells c.args.self.now.cells) c.args.self.now.drops c.weights_of-weights.result c.sums_of-open.result.0 c.sums_of-open.result.1 c.args.used.now.items c.requires.size,
 )
 
@@ -23,8 +23,8 @@ loop-index-preserved c =
     let i = c.loop-index.index in
     let size = c.args.mark.now.tilings.tilings.ok in
     let within : i < length list = omega (arith, c.loop-index-test.true, size) in (
-      pending-more list E marks.drops weights allowed open_hands c.loop-index.pending i c.asked_about-asked.result c.served_among-served.result c.index-tiling.result.now within c.index-tiling.ensures
-          c.asked_about-asked.ensures.pending c.served_among-served.ensures c.loop-index.invariant.0,
+      pending-more list E marks.drops weights allowed open_hands c.loop-index.pending i c.asked_about-asked.result c.served_among-served.result c.bits_without-pending-in-loop-index.result c.index-tiling.result.now within c.index-tiling.ensures
+          c.asked_about-asked.ensures.pending c.served_among-served.ensures c.bits_without-pending-in-loop-index.ensures.bits c.loop-index.invariant.0,
       using-more list E marks.drops weights allowed open_hands c.args.used.now.items c.loop-index.used.items i c.asked_about-asked.result c.served_among-served.result c.index.result.now c.or_some-is_used.result c.or_some.result c.index-tiling.result.now
           within c.index-tiling.ensures c.index.ensures c.or_some-is_used.ensures c.or_some.ensures c.asked_about-asked.ensures.all c.served_among-served.ensures c.loop-index.invariant.1,
     )
