@@ -1,7 +1,7 @@
 -- A placement after which a rest is good stands in a listed tiling by the pieces of the rest and its own.
-use Rattle.std.proofs.Common.{ℕ, suc, cond, ◌≡◌, ◌↔◌, ◌∙◌, ◌+◌, ◌-◌, ◌*◌, ◌^◌, ◌%◌, ◌<◌, ◌≤◌, ◌⊎◌, Bool, true, false, ◌&&◌, ◌||◌, ◌==◌, bit_and, bit_or, List, [], ◌∷◌, ◌++◌, length, get_or, map, ap, refl, sym, subst, inl, inr, arith, rules}
+use Rattle.std.proofs.Common.{ℕ, suc, cond, ◌≡◌, ◌↔◌, ◌∙◌, ◌+◌, ◌-◌, ◌*◌, ◌^◌, ◌%◌, ◌<◌, ◌≤◌, ◌⊎◌, Bool, true, false, not, ◌&&◌, ◌||◌, ◌==◌, bit_and, bit_or, List, [], ◌∷◌, ◌++◌, length, get_or, map, ap, refl, sym, subst, inl, inr, arith, rules}
 use Rattle.std.proofs.Math.Bool.{and-true, or-true, true-or}
-use Rattle.std.proofs.lemmas.Bool.{agree_below_at, cases_lt, both_ways, eq-eqb, eqb-true, false_from_ne_true, or_parts}
+use Rattle.std.proofs.lemmas.Bool.{agree_below_at, cases_lt, both_ways, eq-eqb, eqb-true, false_from_ne_true, not-false, or_parts}
 use Rattle.std.specs.Prelude.{All, Contains, Option, Some, None, IfSome, IsSomeAnd, slice_get}
 use Rattle.std.proofs.lemmas.Option.{slice_get_within, get_or_from_slice_get}
 use Rattle.std.proofs.lemmas.List.Elements.{All-head, All-tail}
@@ -49,8 +49,8 @@ use Rattle.percent.specs.ListedHands.{IsRestAt, ListsHand}
 use Rattle.percent.proofs.BuiltLemmas.{BuiltFirst, after, good-built, less-small, place-built}
 use Rattle.percent.proofs.SentLemmas.{laid-sent, sent_part, tiled-left}
 use Rattle.percent.specs.Marks.{AreCountsWith, AreIndexes, HasCounts, HasMarkAt, IsMarkOf, IsStanding, IsTrueMark}
-use Rattle.percent.specs.declared.children.Standing.{Standing}
-use Rattle.percent.specs.Standing.{AreStandingBefore}
+use Rattle.percent.specs.declared.children.WantedPieces.{WantedPieces}
+use Rattle.percent.specs.Standing.{AreStanding}
 use Rattle.tiled_pieces.specs.declared.standing.StandingPieces.{StandingPieces}
 use Rattle.tiled_pieces.specs.Standing.{GrowsBy, Stands}
 use Rattle.percent.specs.Spread.{IsSpread}
@@ -214,15 +214,20 @@ pub all_set : (k : ℕ) → k < 64 → has_bit 18446744073709551615 k ≡ true
 unfolding has_bit
 all_set k below = agree_below_at (λ k. has_bit 18446744073709551615 k) (λ k. true) 64 k refl below
 
+-- each piece of the kind in a tiling of one of the first i marks that are wanted stands under the mark's index
+pub record AreListed (known : List Mark) (wanted : ℕ) (listed : StandingPieces) (i : ℕ) : Type 0 where
+  pub each : (k : ℕ) → k < i → has_bit wanted k ≡ true → (mark : Mark) → slice_get known k ≡ Some mark → (cells : Field)
+      → SomeHas mark.tilings.tilings.items (record { piece = listed.piece; cells = cells }) → Stands listed.pieces.items cells k
+
 -- the pieces of one mark more are added
-pub standing-more : (known : List Mark) (before after : StandingPieces) (others i : ℕ) (mark : Mark) → slice_get known i ≡ Some mark → after.piece ≡ before.piece
+pub listed-more : (known : List Mark) (wanted : ℕ) (before after : StandingPieces) (i : ℕ) (mark : Mark) → slice_get known i ≡ Some mark → after.piece ≡ before.piece
     → GrowsBy before.pieces.items after.pieces.items i (λ cells. SomeHas mark.tilings.tilings.items (record { piece = before.piece; cells = cells }))
-    → AreStandingBefore known (record { pieces = before; others = others }) i → AreStandingBefore known (record { pieces = after; others = others }) (i + 1)
-standing-more known before after others i mark at same grows state = record {
-  each = λ k below unset other there cells some.
+    → AreListed known wanted before i → AreListed known wanted after (i + 1)
+listed-more known wanted before after i mark at same grows state = record {
+  each = λ k below set other there cells some.
       let has = subst (λ p. SomeHas other.tilings.tilings.items (record { piece = p; cells = cells })) same some in
       (grows.both cells k).1 (elim (cases_lt k i) as (λ _. Stands before.pieces.items cells k ⊎ ((k ≡ i) × SomeHas mark.tilings.tilings.items (record { piece = before.piece; cells = cells }))) [
-        | inl earlier ↦ inl (state.each k earlier unset other there cells has)
+        | inl earlier ↦ inl (state.each k earlier set other there cells has)
         | inr past ↦
             let here : k ≡ i = omega arith in
             let one : other ≡ mark = some_same (sym there ∙ ap (slice_get known) here ∙ at) in
@@ -230,33 +235,35 @@ standing-more known before after others i mark at same grows state = record {
       ]);
 }
 
--- or it is one of the others
-pub standing-pass : (known : List Mark) (pieces : StandingPieces) (others i : ℕ) → i < 64
-    → AreStandingBefore known (record { pieces = pieces; others = others }) i → AreStandingBefore known (record { pieces = pieces; others = bit_or others (1 * 2 ^ i % 2 ^ 64) }) (i + 1)
-standing-pass known pieces others i low state = record {
-  each = λ k below unset mark there cells some.
-      let both = or_parts (has_bit others k) (has_bit (1 * 2 ^ i % 2 ^ 64) k) (sym (has_bit-or others (1 * 2 ^ i % 2 ^ 64) k) ∙ unset) in
-      elim (cases_lt k i) [
-        | inl before ↦ state.each k before both.0 mark there cells some
-        | inr past ↦
-            let same : k ≡ i = omega arith in
-            absurd (both_ways _ both.1 (has_bit-one i k low ∙ eq-eqb k i same))
-      ];
+-- a mark that isn't wanted
+pub listed-pass : (known : List Mark) (wanted : ℕ) (listed : StandingPieces) (i : ℕ) → has_bit wanted i ≡ false → AreListed known wanted listed i → AreListed known wanted listed (i + 1)
+listed-pass known wanted listed i unset state = record {
+  each = λ k below set mark there cells some. elim (cases_lt k i) [
+    | inl before ↦ state.each k before set mark there cells some
+    | inr past ↦
+        let same : k ≡ i = omega arith in
+        absurd (both_ways _ (ap (has_bit wanted) same ∙ unset) set)
+  ];
 }
 
-pub standing-ends : (known : List Mark) (standing : Standing) (i : ℕ) → (length known ≤ i) ⊎ (64 ≤ i) → AreStandingBefore known standing i → AreStandingBefore known standing 64
-standing-ends known standing i all state = record {
-  each = λ k low unset mark there cells some. state.each k (before k low (slice_get_within known k mark there) all) unset mark there cells some;
+-- the marks that aren't wanted are the others
+pub listed-ends : (known : List Mark) (wanted : ℕ) (listed : StandingPieces) (others i : ℕ) → (length known ≤ i) ⊎ (64 ≤ i)
+    → ((k : ℕ) → has_bit others k ≡ (has_bit 18446744073709551615 k && not (has_bit wanted k))) → AreListed known wanted listed i → AreStanding known (record { listed = listed; others = others })
+listed-ends known wanted listed others i all less state = record {
+  each = λ k low unset mark there cells some. state.each k (before k low (slice_get_within known k mark there) all) (set k low unset) mark there cells some;
 }
   where
     before : (k : ℕ) → k < 64 → k < length known → (length known ≤ i) ⊎ (64 ≤ i) → k < i
     before k low within (inl all) = omega arith
     before k low within (inr all) = omega arith
 
+    set : (k : ℕ) → k < 64 → has_bit others k ≡ false → has_bit wanted k ≡ true
+    set k low unset = not-false (has_bit wanted k) (ap (λ b. b && not (has_bit wanted k)) (sym (all_set k low)) ∙ sym (less k) ∙ unset)
+
 -- a placement stands in no tiling of the marks under whose indexes it isn't found
-pub standing-found : (known : List Mark) (rows : List ℕ) (q : Placement) (standing : Standing) (lists : ℕ) (taken : Field) → taken ≡ sent_cells rows q → standing.pieces.piece ≡ q.piece
-    → AreStandingBefore known standing 64 → ((k : ℕ) → k < 64 → (has_bit lists k ≡ true) ↔ Stands standing.pieces.pieces.items taken k) → IsStanding known rows q (bit_or lists standing.others)
-standing-found known rows q standing lists taken same kind all found = search (rules, or_parts, has_bit-or, both_ways)
+pub standing-found : (known : List Mark) (rows : List ℕ) (q : Placement) (pieces : WantedPieces) (lists : ℕ) (taken : Field) → taken ≡ sent_cells rows q → pieces.listed.piece ≡ q.piece
+    → AreStanding known pieces → ((k : ℕ) → k < 64 → (has_bit lists k ≡ true) ↔ Stands pieces.listed.pieces.items taken k) → IsStanding known rows q (bit_or lists pieces.others)
+standing-found known rows q pieces lists taken same kind all found = search (rules, or_parts, has_bit-or, both_ways)
 
 -- ---- indexes of marks
 

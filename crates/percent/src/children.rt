@@ -22,7 +22,7 @@ use crate::marks::{Asked, Marks};
 use crate::order::rank;
 use crate::position::Child;
 use empty_cells::Empties;
-use lane_board::words::has_bit;
+use lane_board::words::{bits_without, has_bit};
 use pc_outside::NoMemory;
 use reach::Steps;
 use srs::{Piece, Placement};
@@ -32,8 +32,8 @@ use tiled_pieces::StandingPieces;
 
 /// The pieces of one kind in the tilings of the wanted marks, under their indexes.
 #[derive(Drop)]
-struct Standing {
-    pieces: StandingPieces,
+struct WantedPieces {
+    listed: StandingPieces,
     /// The other marks, in whose tilings each piece may stand. Bit `k` stands for mark `k`.
     others: u64,
 }
@@ -59,31 +59,36 @@ impl Marks {
     }
 
     /// The pieces of a kind in the tilings of the wanted marks.
-    fn wanted_pieces(&self, alloc: Global, piece: Piece, wanted: u64) -> Result<Standing, NoMemory>
-        ensures kind { IfOk result (λ standing. standing.pieces.piece ≡ piece) }
+    fn listed_pieces(
+        &self,
+        alloc: Global,
+        piece: Piece,
+        wanted: u64,
+    ) -> Result<WantedPieces, NoMemory>
+        ensures kind { IfOk result (λ pieces. pieces.listed.piece ≡ piece) }
         ensures each { IfOk result (AreStanding self.now.known.items) }
     {
-        let mut pieces = StandingPieces::new(alloc, piece)?;
-        let mut others = 0;
+        let mut listed = StandingPieces::new(alloc, piece)?;
         for index in 0..self.known.len().min(64) {
             if has_bit(wanted, index as u16) {
-                pieces.add(&self.known[index].tilings, index as u8)?;
-            } else {
-                others |= 1 << index;
+                listed.add(&self.known[index].tilings, index as u8)?;
             }
         }
-        Ok(Standing { pieces, others })
+        Ok(WantedPieces {
+            listed,
+            others: bits_without(u64::MAX, wanted),
+        })
     }
 
     /// The same. If there is not enough memory for them, each piece may stand in the tilings of each mark.
-    fn standing_pieces(&self, alloc: Global, piece: Piece, wanted: u64) -> Standing
-        ensures kind { result.pieces.piece ≡ piece }
+    fn wanted_pieces(&self, alloc: Global, piece: Piece, wanted: u64) -> WantedPieces
+        ensures kind { result.listed.piece ≡ piece }
         ensures each { AreStanding self.now.known.items result }
     {
-        match self.wanted_pieces(alloc, piece, wanted) {
-            Ok(standing) => standing,
-            Err(_) => Standing {
-                pieces: StandingPieces {
+        match self.listed_pieces(alloc, piece, wanted) {
+            Ok(pieces) => pieces,
+            Err(_) => WantedPieces {
+                listed: StandingPieces {
                     piece,
                     pieces: Vec::new(alloc),
                 },
@@ -94,13 +99,13 @@ impl Marks {
 
     /// In which of the marks' tilings a placement with these cells may stand. Bit `k` stands for mark `k`.
     #[inline(always)]
-    fn standing(&self, placement: &Placement, taken: &Empties, standing: &Standing) -> u64
+    fn standing(&self, placement: &Placement, taken: &Empties, pieces: &WantedPieces) -> u64
         requires taken { empty_cells taken.now ≡ sent_cells self.now.rows placement.now }
-        requires kind { standing.now.pieces.piece ≡ placement.now.piece }
-        requires each { AreStanding self.now.known.items standing.now }
+        requires kind { pieces.now.listed.piece ≡ placement.now.piece }
+        requires each { AreStanding self.now.known.items pieces.now }
         ensures { IsStanding self.now.known.items self.now.rows placement.now result }
     {
-        standing.pieces.lists_with(taken) | standing.others
+        pieces.listed.lists_with(taken) | pieces.others
     }
 
     /// Whether walls show that no pieces can fill what is left without these cells.
@@ -165,7 +170,7 @@ impl Marks {
         let position = &self.position;
         let wanted = self.wanted(piece, left, asked);
         let mut places = kept.places_below(position, piece, steps);
-        let pieces = self.standing_pieces(alloc, piece, wanted.unwrap_or(u64::MAX));
+        let pieces = self.wanted_pieces(alloc, piece, wanted.unwrap_or(u64::MAX));
         let mut children = Vec::new(alloc);
         while let Some(placement) = places.take_least() {
             let taken = self.taken(&placement);

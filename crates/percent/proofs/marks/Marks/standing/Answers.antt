@@ -5,5 +5,5 @@ use Rattle.percent.proofs.marks.Marks.standing.Goals as goal
 
 pub returns : goal.returns
 returns c =
-    standing-found c.args.self.now.known.items c.args.self.now.rows c.args.placement.now c.args.standing.now c.lists_with.result (empty_cells c.args.taken.now)
+    standing-found c.args.self.now.known.items c.args.self.now.rows c.args.placement.now c.args.pieces.now c.lists_with.result (empty_cells c.args.taken.now)
     c.requires.taken c.requires.kind c.requires.each c.lists_with.ensures
