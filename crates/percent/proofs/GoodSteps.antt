@@ -1,5 +1,5 @@
 -- The steps of looking into hands, as facts about what lists have.
-use Rattle.std.proofs.Common.{ℕ, suc, ◌≡◌, ◌+◌, ◌*◌, ◌/◌, ◌%◌, ◌<◌, ◌≤◌, Bool, true, false, not, ◌&&◌, ◌||◌, ◌==◌, List, length, get_or, take, drop, ap, subst, ◌∙◌, sym, inl, inr, arith, rules}
+use Rattle.std.proofs.Common.{ℕ, suc, ◌≡◌, ◌+◌, ◌-◌, ◌*◌, ◌/◌, ◌%◌, ◌<◌, ◌≤◌, Bool, true, false, not, ◌&&◌, ◌||◌, ◌==◌, List, length, get_or, take, drop, ap, subst, ◌∙◌, sym, inl, inr, arith, rules}
 use Rattle.std.specs.List.{list_any}
 use Rattle.std.specs.Prelude.{IsPermutation}
 use Rattle.std.proofs.lemmas.List.Sorted.{list_any-IsPermutation}
@@ -92,17 +92,19 @@ taken_back : (w a : Bool) → (w && not (w && not a)) ≡ (w && a)
 taken_back w a = search rules
 
 -- all kinds, in whatever order
-all_tried : (order : List Piece) (game : Game) (F : Field) (rows left i : ℕ) → IsPermutation all_pieces order → length order ≤ i
-    → (hand : ℕ) → list_any (λ piece. takes game.hold (piece_code piece) (is_good_after game F rows piece left) hand) (take i order) ≡ is_good game F rows (left + 1) hand
-all_tried order game F rows left i same all hand =
-    let test : Piece → Bool = λ piece. takes game.hold (piece_code piece) (is_good_after game F rows piece left) hand in
-    let one : left + 1 ≡ suc left = omega arith in
-    ap (list_any test) (take_all i order all) ∙ sym (list_any-IsPermutation test all_pieces order same) ∙ sym (good-step game F rows left hand) ∙ ap (λ n. is_good game F rows n hand) (sym one)
+all_tried : (order : List Piece) (game : Game) (F : Field) (rows left i : ℕ) → 1 ≤ left → IsPermutation all_pieces order → length order ≤ i
+    → (hand : ℕ) → list_any (λ piece. takes game.hold (piece_code piece) (is_good_after game F rows piece (left - 1)) hand) (take i order) ≡ is_good game F rows left hand
+all_tried order game F rows left i some same all hand =
+    let test : Piece → Bool = λ piece. takes game.hold (piece_code piece) (is_good_after game F rows piece (left - 1)) hand in
+    let one : left ≡ suc (left - 1) = omega (arith, some) in
+    ap (list_any test) (take_all i order all) ∙ sym (list_any-IsPermutation test all_pieces order same) ∙ sym (good-step game F rows (left - 1) hand) ∙ ap (λ n. is_good game F rows n hand) (sym one)
 
 -- the hands that are still open are those that aren't good
-pub explore-open : (order : List Piece) (game now : Game) (F : Field) (rows left : ℕ) (hands asked : HandSet) (before after i : ℕ) → IsPermutation all_pieces order → Exploring order game now F rows left hands asked before after i → length order ≤ i
-    → (hand : ℕ) → has asked hand ≡ (has hands hand && not (is_good now F rows (left + 1) hand))
-explore-open order game now F rows left hands asked before after i same state all hand = search (rules, all_tried)
+pub explore-open : (order : List Piece) (game now : Game) (F : Field) (rows left : ℕ) (hands asked : HandSet) (before after i : ℕ) → 1 ≤ left → IsPermutation all_pieces order → Exploring order game now F rows (left - 1) hands asked before after i → length order ≤ i
+    → (hand : ℕ) → has asked hand ≡ (has hands hand && not (is_good now F rows left hand))
+explore-open order game now F rows left hands asked before after i some same state all hand =
+    state.members hand ∙ ap (λ b. has hands hand && not b) (all_tried order game F rows left i some same all hand)
+    ∙ ap (λ (g : Game). has hands hand && not (is_good g F rows left hand)) (sym state.same)
 
 not_second : (w t : Bool) → (w && not t) ≡ true → t ≡ false
 not_second w t there = search rules
@@ -111,11 +113,9 @@ pub open-bad : (hands asked : HandSet) (good : ℕ → Bool) → ((hand : ℕ) �
 open-bad hands asked good asked_is hand there = not_second (has hands hand) (good hand) (sym (asked_is hand) ∙ there)
 
 -- the answers at a position are those at one that is the same
-pub answers-at : (game : Game) (p q : Position) (n left : ℕ) (hands good bad : HandSet) → p ≡ q → n ≡ left
-    → AreAnswered game (filled p.well) p.rows n hands good bad → AreAnswered game (filled q.well) q.rows left hands good bad
-answers-at game p q n left hands good bad at same answers =
-    subst (λ n. AreAnswered game (filled q.well) q.rows n hands good bad) same
-    (subst (λ (p : Position). AreAnswered game (filled p.well) p.rows n hands good bad) at answers)
+pub answers-at : (game : Game) (p q : Position) (left : ℕ) (hands good bad : HandSet) → p ≡ q
+    → AreAnswered game (filled p.well) p.rows left hands good bad → AreAnswered game (filled q.well) q.rows left hands good bad
+answers-at game p q left hands good bad at answers = subst (λ (p : Position). AreAnswered game (filled p.well) p.rows left hands good bad) at answers
 
 -- ---- one child after the other
 

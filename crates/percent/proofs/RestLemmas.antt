@@ -1,5 +1,5 @@
 -- Rests are what is left of hands when a piece is taken.
-use Rattle.std.proofs.Common.{◌≡◌, ℕ, suc, ◌+◌, ◌*◌, ◌/◌, ◌%◌, ◌<◌, Bool, true, ◌&&◌, ◌||◌, ◌==◌, subst, ◌∙◌, sym, inl, inr, arith}
+use Rattle.std.proofs.Common.{◌≡◌, ℕ, suc, ◌+◌, ◌-◌, ◌*◌, ◌/◌, ◌%◌, ◌<◌, ◌≤◌, Bool, true, ◌&&◌, ◌||◌, ◌==◌, subst, ◌∙◌, sym, inl, inr, arith}
 use Rattle.std.proofs.lemmas.Bool.{and_from, and_parts, eq-eqb, or_cases, or_left, or_right}
 use Rattle.srs.specs.declared.piece.Piece.{Piece}
 use Rattle.srs.specs.Piece.{piece_code}
@@ -26,8 +26,8 @@ takes-second hold code rest small allowed =
 -- what is left of the hands of marks when a piece is taken
 pub rests-at : (marks : Marks) (piece : Piece) (left : ℕ) (hold : Hold) (hands asked rests : HandSet) → hold ≡ marks.game.hold → ((hand : ℕ) → has asked hand ≡ true → has hands hand ≡ true)
     → ((rest : ℕ) → has rests rest ≡ (has asked (with_first (piece_code piece) rest) || (allows_hold hold && has asked (with_second (piece_code piece) rest))))
-    → AreMarksOf marks (left + 1) (has hands) → AreRestsAt marks piece left (has rests)
-rests-at marks piece left hold hands asked rests same fewer rests_are lists = record { each = each }
+    → 1 ≤ left → AreMarksOf marks left (has hands) → AreRestsAt marks piece (left - 1) (has rests)
+rests-at marks piece left hold hands asked rests same fewer rests_are some lists = record { each = each }
   where
     code : ℕ
     code = piece_code piece
@@ -35,14 +35,14 @@ rests-at marks piece left hold hands asked rests same fewer rests_are lists = re
     small : code < 8
     small = let few = piece_code-small piece in omega arith
 
-    from : (rest hand : ℕ) → takes hold code (λ other. other == rest) hand ≡ true → has asked hand ≡ true → IsRestAt marks piece left rest
+    from : (rest hand : ℕ) → takes hold code (λ other. other == rest) hand ≡ true → has asked hand ≡ true → IsRestAt marks piece (left - 1) rest
     from rest hand taken there = record {
       hand = hand;
       taken = subst (λ h. takes h code (λ other. other == rest) hand ≡ true) same taken;
-      lists = subst (λ n. AllListHand marks n hand) {x = left + 1} {y = suc left} (omega arith) (lists.each hand (fewer hand there));
+      lists = subst (λ n. AllListHand marks n hand) {x = left} {y = suc (left - 1)} (omega (arith, some)) (lists.each hand (fewer hand there));
     }
 
-    each : (rest : ℕ) → has rests rest ≡ true → IsRestAt marks piece left rest
+    each : (rest : ℕ) → has rests rest ≡ true → IsRestAt marks piece (left - 1) rest
     each rest there = elim (or_cases (has asked (with_first code rest)) _ (sym (rests_are rest) ∙ there)) [
       | inl first ↦ from rest (with_first code rest) (takes-first hold code rest small) first
       | inr second ↦

@@ -114,13 +114,12 @@ fn searched<L: Ledger>(
     ensures counted { steps.old ≤ steps.new }
 {
     let below = marks_after(alloc, &mut kept.lister, marks, child, left, hands);
-    let (good, bad) = explored(alloc, kept, below, left - 1, hands, steps)?;
+    let (good, bad) = explored(alloc, kept, below, left, hands, steps)?;
     kept.keep(alloc, &child.position, left, &good, &bad);
     Ok(good)
 }
 
-/// Those of the hands that are not good at the position of the marks with one placement to come and then `left` more,
-/// piece by piece.
+/// Those of the hands that are not good at the position of the marks with `left` placements to come, piece by piece.
 #[cycle(search)]
 fn missed<L: Ledger>(
     alloc: Global,
@@ -130,11 +129,12 @@ fn missed<L: Ledger>(
     hands: HandSet,
     steps: &mut Steps<L>,
 ) -> Result<HandSet, NoMemory>
-    requires few { left ≤ 19 }
+    requires some { 1 ≤ left }
+    requires few { left ≤ 20 }
     requires game { kept.old.game ≡ marks.now.game }
-    requires lists { AreMarksOf marks.now (left + 1) (has hands) }
+    requires lists { AreMarksOf marks.now left (has hands) }
     ensures members { IfOk result (λ bad. (hand : ℕ) → has bad hand ≡ (has hands hand && not (
-        is_good kept.old.game (filled marks.now.position.well) marks.now.position.rows (left + 1) hand))) }
+        is_good kept.old.game (filled marks.now.position.well) marks.now.position.rows left hand))) }
     ensures game { kept.new.game ≡ kept.old.game }
     ensures counted { steps.old ≤ steps.new }
 {
@@ -143,14 +143,14 @@ fn missed<L: Ledger>(
     for piece in order {
         let hold = kept.game.hold;
         let rests = open.rests_of(alloc, hold, piece)?;
-        let good = tried(alloc, kept, marks, left, piece, &rests, steps)?;
+        let good = tried(alloc, kept, marks, left - 1, piece, &rests, steps)?;
         open = open.not_leading_to(alloc, hold, piece, &good)?;
     }
     Ok(open)
 }
 
-/// The hands that are good at the position of the marks with one placement to come and then `left` more, and those that
-/// are not. Those that no listed tiling serves are not tried, where it pays to ask.
+/// The hands that are good at the position of the marks with `left` placements to come, and those that are not. Those
+/// that no listed tiling serves are not tried, where it pays to ask.
 #[cycle(search)]
 fn explored<L: Ledger>(
     alloc: Global,
@@ -160,21 +160,22 @@ fn explored<L: Ledger>(
     hands: &HandSet,
     steps: &mut Steps<L>,
 ) -> Result<(HandSet, HandSet), NoMemory>
-    requires few { left ≤ 19 }
+    requires some { 1 ≤ left }
+    requires few { left ≤ 20 }
     requires game { kept.old.game ≡ marks.game }
-    requires lists { AreMarksOf marks (left + 1) (has hands.now) }
+    requires lists { AreMarksOf marks left (has hands.now) }
     ensures answers { IfOk result (λ answers. AreAnswered kept.old.game (filled marks.position.well)
-        marks.position.rows (left + 1) hands.now answers.0 answers.1) }
+        marks.position.rows left hands.now answers.0 answers.1) }
     ensures game { kept.new.game ≡ kept.old.game }
     ensures counted { steps.old ≤ steps.new }
 {
-    if !marks.asks_orders(left + 1) {
+    if !marks.asks_orders(left) {
         let all = hands.copied(alloc)?;
         let bad = missed(alloc, kept, &marks, left, all, steps)?;
         let good = hands.without(alloc, &bad)?;
         return Ok((good, bad));
     }
-    let likely = marks.buildable(alloc, left + 1, hands)?;
+    let likely = marks.buildable(alloc, left, hands)?;
     let all = likely.copied(alloc)?;
     let open = missed(alloc, kept, &marks, left, all, steps)?;
     let good = likely.without(alloc, &open)?;
@@ -239,7 +240,7 @@ pub fn answered_first<L: Ledger>(
         return answered_at_end(alloc, position, hands);
     }
     let game = kept.game;
-    let marks = marks_of(alloc, &mut kept.lister, &game, position, left - 1, hands);
-    let (good, _) = explored(alloc, kept, marks, left - 1, hands, steps)?;
+    let marks = marks_of(alloc, &mut kept.lister, &game, position, left, hands);
+    let (good, _) = explored(alloc, kept, marks, left, hands, steps)?;
     Ok(good)
 }

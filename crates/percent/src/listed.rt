@@ -36,21 +36,21 @@ fn all_counts(alloc: Global, hands: &HandSet, pieces: u8, most: usize) -> Vec<Co
     v
 }
 
-/// For how many counts of pieces it pays to list the ordered tilings of a position, with one placement to come and
-/// then `left` more. High fields have too many, and there are many more where a piece of each hand stays over.
+/// For how many counts of pieces it pays to list the ordered tilings of a position, with `left` placements to come.
+/// High fields have too many, and there are many more where a piece of each hand stays over.
 fn most_counts(hold: Hold, rows: u8, left: u8) -> usize {
     let most_left = match hold {
-        Hold::Avoided => 8,
-        Hold::Allowed => 7,
+        Hold::Avoided => 9,
+        Hold::Allowed => 8,
     };
     if rows <= 4 && left <= most_left {
         return 64;
     }
-    if left <= 3 { 8 } else { 0 }
+    if left <= 4 { 8 } else { 0 }
 }
 
-/// All ordered tilings at a position by the pieces of some hands. If they can't be listed, or there is not enough
-/// memory for them, nothing is known.
+/// All ordered tilings at a position by the pieces of some hands, with `left` placements to come. If they can't be
+/// listed, or there is not enough memory for them, nothing is known.
 pub fn marks_of(
     alloc: Global,
     lister: &mut Lister,
@@ -65,7 +65,7 @@ pub fn marks_of(
     ensures all { (left : ℕ) (hands : ℕ → Bool) → AreMarksOf result left hands }
 {
     let most = most_counts(game.hold, position.rows, left);
-    let all = all_counts(alloc, hands, left + 2, most);
+    let all = all_counts(alloc, hands, left + 1, most);
     let mut marks = Marks::new(alloc, game, position);
     for counts in &all {
         if !marks.list(alloc, lister, *counts) {
@@ -169,7 +169,7 @@ pub fn marks_after(
     ensures lists { AreMarksOf result left (has hands.now) }
 {
     if marks.is_empty() {
-        return marks_of(alloc, lister, &marks.game, &child.position, left - 1, hands);
+        return marks_of(alloc, lister, &marks.game, &child.position, left, hands);
     }
     marks.after(alloc, child, left, hands)
 }

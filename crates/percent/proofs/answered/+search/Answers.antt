@@ -66,23 +66,21 @@ answered-returns-clause-members g t c =
 pub searched-keep-requires-clause-found_true : goal.searched-keep-requires-clause-found_true
 searched-keep-requires-clause-found_true g t c = λ hand there.
     let p = c.args.child.now.position in
-    let answers = answers-at c.args.kept.now.game c.marks_after-below.result.position p (c.args.left - 1 + 1) c.args.left c.args.hands.now c.in_ok-good.good c.in_ok-good.bad
-    c.marks_after-below.ensures.position (omega (arith, c.requires.some)) c.in_ok-good.ensures.answers in
+    let answers = answers-at c.args.kept.now.game c.marks_after-below.result.position p c.args.left c.args.hands.now c.in_ok-good.good c.in_ok-good.bad c.marks_after-below.ensures.position c.in_ok-good.ensures.answers in
     ap (λ (game : Game). is_good game (filled p.well) p.rows c.args.left hand) c.in_ok-good.ensures.game
     ∙ found-good c.in_ok-good.good c.args.hands.now (is_good c.args.kept.now.game (filled p.well) p.rows c.args.left) answers.goods hand there
 
 pub searched-keep-requires-clause-missed_true : goal.searched-keep-requires-clause-missed_true
 searched-keep-requires-clause-missed_true g t c = λ hand there.
     let p = c.args.child.now.position in
-    let answers = answers-at c.args.kept.now.game c.marks_after-below.result.position p (c.args.left - 1 + 1) c.args.left c.args.hands.now c.in_ok-good.good c.in_ok-good.bad
-    c.marks_after-below.ensures.position (omega (arith, c.requires.some)) c.in_ok-good.ensures.answers in
+    let answers = answers-at c.args.kept.now.game c.marks_after-below.result.position p c.args.left c.args.hands.now c.in_ok-good.good c.in_ok-good.bad c.marks_after-below.ensures.position c.in_ok-good.ensures.answers in
     ap (λ (game : Game). is_good game (filled p.well) p.rows c.args.left hand) c.in_ok-good.ensures.game
     ∙ open-bad c.args.hands.now c.in_ok-good.bad (is_good c.args.kept.now.game (filled p.well) p.rows c.args.left) answers.bads hand there
 
 pub searched-returns-clause-members : goal.searched-returns-clause-members
 searched-returns-clause-members g t c =
-    (answers-at c.args.kept.now.game c.marks_after-below.result.position c.args.child.now.position (c.args.left - 1 + 1) c.args.left c.args.hands.now c.in_ok-good.good c.in_ok-good.bad
-    c.marks_after-below.ensures.position (omega (arith, c.requires.some)) c.in_ok-good.ensures.answers).goods
+    (answers-at c.args.kept.now.game c.marks_after-below.result.position c.args.child.now.position c.args.left c.args.hands.now c.in_ok-good.good c.in_ok-good.bad
+    c.marks_after-below.ensures.position c.in_ok-good.ensures.answers).goods
 
 seven : (order : List Piece) → IsPermutation all_pieces order → length order ≡ 7
 seven order same = length_permutation all_pieces order same
@@ -91,13 +89,13 @@ pub missed-tried-requires : goal.missed-tried-requires
 missed-tried-requires g t c =
     let link = c.loop-piece.invariant.same ∙ c.requires.game in
     let rests = rests-at c.args.marks.now (get_or c.wanted_first-order.result c.loop-piece.piece-index I) c.args.left c.loop-piece.kept.game.hold c.args.hands c.loop-piece.open c.in_ok-rests.rests (ap (λ (game : Game). game.hold) link)
-    (λ hand. first-true (has c.loop-piece.open hand) (has c.args.hands hand) _ (c.loop-piece.invariant.members hand)) c.in_ok-rests.ensures c.requires.lists in
+    (λ hand. first-true (has c.loop-piece.open hand) (has c.args.hands hand) _ (c.loop-piece.invariant.members hand)) c.in_ok-rests.ensures c.requires.some c.requires.lists in
     search (rules, link, rests)
 
 pub missed-loop-piece-preserved : goal.missed-loop-piece-preserved
 missed-loop-piece-preserved g t c =
     let p = c.args.marks.now.position in
-    explore-step c.wanted_first-order.result c.args.kept.now.game c.loop-piece.kept.game c.tried.new.kept.game (filled p.well) p.rows c.args.left c.args.hands
+    explore-step c.wanted_first-order.result c.args.kept.now.game c.loop-piece.kept.game c.tried.new.kept.game (filled p.well) p.rows (c.args.left - 1) c.args.hands
     c.loop-piece.open c.in_ok-rests.rests c.in_ok-good.good c.in_ok-open.open
     c.args.steps.now c.loop-piece.steps c.tried.new.steps c.loop-piece.piece-index _
     c.loop-piece.invariant (omega (arith, seven c.wanted_first-order.result c.wanted_first-order.ensures, c.loop-piece-test.true))
@@ -108,8 +106,8 @@ missed-returns-clause-members g t c = λ hand.
     let p = c.args.marks.now.position in
     let order = c.wanted_first-order.result in
     explore-open order c.args.kept.now.game c.loop-piece.kept.game (filled p.well) p.rows c.args.left c.args.hands c.loop-piece.open c.args.steps.now c.loop-piece.steps c.loop-piece.piece-index
-    c.wanted_first-order.ensures c.loop-piece.invariant (omega (arith, seven order c.wanted_first-order.ensures, c.loop-piece-test.false)) hand
-    ∙ ap (λ (game : Game). has c.args.hands hand && not (is_good game (filled p.well) p.rows (c.args.left + 1) hand)) c.loop-piece.invariant.same
+    c.requires.some c.wanted_first-order.ensures c.loop-piece.invariant (omega (arith, seven order c.wanted_first-order.ensures, c.loop-piece-test.false)) hand
+    ∙ ap (λ (game : Game). has c.args.hands hand && not (is_good game (filled p.well) p.rows c.args.left hand)) c.loop-piece.invariant.same
 
 pub tried-returns-then-is_empty-clause-members : goal.tried-returns-then-is_empty-clause-members
 tried-returns-then-is_empty-clause-members g t c = λ rest.

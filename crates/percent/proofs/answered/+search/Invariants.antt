@@ -1,4 +1,4 @@
-use Rattle.std.proofs.Common.{◌+◌, ◌*◌}
+use Rattle.std.proofs.Common.{◌+◌, ◌-◌, ◌*◌}
 use Rattle.well.specs.Well.{filled}
 use Rattle.percent.specs.Marks.{AreIndexes}
 use Rattle.percent.proofs.GoodSteps.{Exploring, Trying}
@@ -11,17 +11,17 @@ abbrev pub decreases-searched : goal.decreases-searched
 decreases-searched g l = 5 * l.left
 
 abbrev pub decreases-explored : goal.decreases-explored
-decreases-explored g l = 5 * l.left + 4
+decreases-explored g l = 5 * l.left - 1
 
 abbrev pub decreases-missed : goal.decreases-missed
-decreases-missed g l = 5 * l.left + 3
+decreases-missed g l = 5 * l.left - 2
 
 abbrev pub decreases-tried : goal.decreases-tried
 decreases-tried g l = 5 * l.left + 2
 
 abbrev pub invariant-missed-loop-piece : goal.invariant-missed-loop-piece
 invariant-missed-loop-piece g l =
-    Exploring l.piece-items l.fn.kept.game l.kept.game (filled l.marks.position.well) l.marks.position.rows l.left l.fn.hands l.open l.fn.steps l.steps l.piece-index
+    Exploring l.piece-items l.fn.kept.game l.kept.game (filled l.marks.position.well) l.marks.position.rows (l.left - 1) l.fn.hands l.open l.fn.steps l.steps l.piece-index
 
 abbrev pub invariant-tried-loop-child : goal.invariant-tried-loop-child
 invariant-tried-loop-child g l =
