@@ -11,10 +11,8 @@ use Rattle.lane_board.specs.Field.{Field}
 use Rattle.lane_board.specs.Lanes.{has_bit}
 use Rattle.lane_board.proofs.CallerLemmas.{has_bit-zero}
 use Rattle.well.specs.Well.{filled}
-use Rattle.hands.specs.declared.hand_set.HandSet.{HandSet}
-use Rattle.hands.specs.HandSets.{has}
 use Rattle.hands.specs.Numbers.{has_number}
-use Rattle.hands.proofs.CallerLemmas.{has-push, number-at}
+use Rattle.hands.proofs.CallerLemmas.{has-push, has-there, number-at}
 use Rattle.empty_cells.specs.Empties.{empty_cells}
 use Rattle.tiled_pieces.specs.declared.listed.ListedTiling.{ListedTiling}
 use Rattle.tiled_pieces.specs.Served.{IsServed}
@@ -23,10 +21,10 @@ use Rattle.percent.specs.declared.game.Game.{Game}
 use Rattle.percent.specs.declared.marks.Mark.{Mark}
 use Rattle.percent.specs.declared.marks.Marks.{Marks}
 use Rattle.percent.specs.declared.position.Position.{Position}
-use Rattle.percent.specs.Building.{AllListHands, AreCountsOf, AreGathered, AreTested, IsHandOf, IsRefused, IsUsedBy, IsUsedByAll, StaysUsed}
+use Rattle.percent.specs.Building.{AreCountsOf, AreGathered, AreTested, IsHandOf, IsRefused, IsUsedBy, IsUsedByAll, StaysUsed}
 use Rattle.hands.specs.Weights.{AreNoted}
 use Rattle.percent.specs.GoodHands.{is_good}
-use Rattle.percent.specs.ListedHands.{AllListHand, AreMarksOf, ListsHand}
+use Rattle.percent.specs.ListedHands.{AreMarksOf, ListsHand}
 use Rattle.percent.specs.Marks.{HasCounts}
 use Rattle.percent.proofs.ServedLemmas.{built-serves, unserved-bad}
 
@@ -338,11 +336,11 @@ has_used-ends list used kept i all state j tiling there set = state.each j (let 
 -- ---- marks with fewer tilings
 
 -- a mark lists those by which the hands are built if it keeps those that are used
-fewer-lists : (marks : Marks) (left hand : ℕ) (used : List Bool) (old new : Mark) → new.counts ≡ old.counts
+kept-lists : (marks : Marks) (left hand : ℕ) (used : List Bool) (old new : Mark) → new.counts ≡ old.counts
     → ((j : ℕ) (tiling : ListedTiling) → slice_get old.tilings.tilings.items j ≡ Some tiling → get_or used j false ≡ true → Contains new.tilings.tilings.items tiling)
     → (HasCounts old.counts left hand → IsUsedBy marks left old.tilings.tilings.items used hand)
     → ListsHand (empty_cells marks.cells) marks.drops marks.game.hold left hand old → ListsHand (empty_cells marks.cells) marks.drops marks.game.hold left hand new
-fewer-lists marks left hand used old new same keeps is_used lists = record {
+kept-lists marks left hand used old new same keeps is_used lists = record {
   each = λ counts built none.
       let counted : HasCounts old.counts left hand = subst (λ c. HasCounts c left hand) same counts in
       lists.each counted built (λ has.
@@ -353,17 +351,21 @@ fewer-lists marks left hand used old new same keeps is_used lists = record {
 pub narrowed : (marks : Marks) (left : ℕ) (hands : List ℕ) (index : ℕ) (used : List Bool) (old new : Mark) → index < length marks.known.items → old ≡ get_or marks.known.items index old → new.counts ≡ old.counts
     → ((j : ℕ) (tiling : ListedTiling) → slice_get old.tilings.tilings.items j ≡ Some tiling → get_or used j false ≡ true → Contains new.tilings.tilings.items tiling)
     → ((n : ℕ) → n < length hands → HasCounts old.counts left (get_or hands n 0) → IsUsedBy marks left old.tilings.tilings.items used (get_or hands n 0))
-    → AllListHands marks left hands
-    → (n : ℕ) → n < length hands → All (ListsHand (empty_cells marks.cells) marks.drops marks.game.hold left (get_or hands n 0)) (list_set marks.known.items index new)
-narrowed marks left hands index used old new within at same keeps is_used all n low =
-    let Holds : Mark → Type 0 = ListsHand (empty_cells marks.cells) marks.drops marks.game.hold left (get_or hands n 0) in
-    All-set Holds marks.known.items index new (fewer-lists marks left (get_or hands n 0) used old new same keeps (is_used n low) (subst Holds (sym at) (all.each n low index old within))) (all.each n low)
+    → AreMarksOf marks left (has_number hands)
+    → (hand : ℕ) → has_number hands hand ≡ true → All (ListsHand (empty_cells marks.cells) marks.drops marks.game.hold left hand) (list_set marks.known.items index new)
+narrowed marks left hands index used old new within at same keeps is_used all hand there =
+    let Holds : Mark → Type 0 = ListsHand (empty_cells marks.cells) marks.drops marks.game.hold left hand in
+    let found = number-at hands hand there in
+    let uses = subst (λ hand. HasCounts old.counts left hand → IsUsedBy marks left old.tilings.tilings.items used hand) found.2 (is_used found.0 found.1) in
+    All-set Holds marks.known.items index new (kept-lists marks left hand used old new same keeps uses (subst Holds (sym at) (all.each hand there index old within))) (all.each hand there)
 
 -- the marks are those of some of the hands
-pub lists-of : (marks : Marks) (left : ℕ) (hands likely : HandSet) (numbers : List ℕ) → ((hand : ℕ) → has_number numbers hand ≡ has hands hand) → ((hand : ℕ) → has likely hand ≡ true → has hands hand ≡ true)
-    → AllListHands marks left numbers → AreMarksOf marks left (has likely)
-lists-of marks left hands likely numbers are fewer all = record {
-  each = λ hand there.
-      let at = number-at numbers hand (are hand ∙ fewer hand there) in
-      subst (AllListHand marks left) at.2 (all.each at.0 at.1);
-}
+pub fewer-lists : (marks : Marks) (left : ℕ) (few many : ℕ → Bool) → ((hand : ℕ) → few hand ≡ true → many hand ≡ true) → AreMarksOf marks left many → AreMarksOf marks left few
+fewer-lists marks left few many fewer all = record { each = λ hand there. all.each hand (fewer hand there) }
+
+-- so one of them is
+pub one-lists : (marks : Marks) (left : ℕ) (hands : List ℕ) (mark : Mark) (n : ℕ) → Contains marks.known.items mark → AreMarksOf marks left (has_number hands) → n < length hands
+    → ListsHand (empty_cells marks.cells) marks.drops marks.game.hold left (get_or hands n 0) mark
+one-lists marks left hands mark n among all within =
+    subst (ListsHand (empty_cells marks.cells) marks.drops marks.game.hold left (get_or hands n 0)) among.2
+    (all.each (get_or hands n 0) (has-there hands n (get_or hands n 0) within refl) among.0 mark among.1)

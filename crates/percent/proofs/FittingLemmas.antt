@@ -26,7 +26,7 @@ use Rattle.percent.specs.declared.game.Game.{Game}
 use Rattle.percent.specs.declared.position.Position.{Position}
 use Rattle.percent.specs.Counts.{supply_by}
 use Rattle.percent.specs.Fitting.{codes_in, supply_at}
-use Rattle.percent.specs.GoodHands.{is_good}
+use Rattle.percent.specs.GoodHands.{LeavesOutBad, is_good}
 use Rattle.percent.proofs.TiledLemmas.{codes-few, good-tiled}
 
 pub low-position : (p : Position) → IsLow (filled p.well) p.rows
@@ -55,23 +55,32 @@ unfit game p cells counts left hand count one cells_are most none =
 -- ---- the hands that are kept
 
 -- where no hand is good none need be kept
-pub none-kept : (v : HandSet) (asked good : ℕ → Bool) → ((hand : ℕ) → asked hand ≡ true → good hand ≡ false) → ((hand : ℕ) → has v hand ≡ false)
-    → (hand : ℕ) → (has v hand && good hand) ≡ (asked hand && good hand)
-none-kept v asked good bad none hand = search rules
+pub none-kept : (v : HandSet) (asked good : ℕ → Bool) → ((hand : ℕ) → asked hand ≡ true → good hand ≡ false) → ((hand : ℕ) → has v hand ≡ false) → LeavesOutBad good asked (has v)
+none-kept v asked good bad none = record { fewer = λ hand there. absurd (false≢true (sym (none hand) ∙ there)); same = same }
+  where
+    same : (hand : ℕ) → (has v hand && good hand) ≡ (asked hand && good hand)
+    same hand = search rules
+
+-- what is left of some hands is left of the same ones
+pub same-asked : (good asked hands fit : ℕ → Bool) → ((hand : ℕ) → asked hand ≡ hands hand) → LeavesOutBad good asked fit → LeavesOutBad good hands fit
+same-asked good asked hands fit same leaves = subst (λ (hands : ℕ → Bool). LeavesOutBad good hands fit) (fun_ext same) leaves
 
 -- a set has each hand of its list
 pub has-listed : (set : HandSet) (hands : List ℕ) (i : ℕ) → ((hand : ℕ) → has_number hands hand ≡ has set hand) → i < length hands → has set (get_or hands i 0) ≡ true
 has-listed set hands i listed within = sym (listed (get_or hands i 0)) ∙ has-there hands i (get_or hands i 0) within refl
 
--- of the first i hands those that are good are kept
-pub record Sifting (good : Game → ℕ → Bool) (hands : List ℕ) (v : HandSet) (i : ℕ) : Type 0 where
-  pub members : (game : Game) (hand : ℕ) → (has v hand && good game hand) ≡ (has_number (take i hands) hand && good game hand)
+-- of the first i hands those that are good are kept, and no other hand is
+abbrev pub Sifting : (ℕ → Bool) → List ℕ → HandSet → ℕ → Type 0
+Sifting good hands v i = LeavesOutBad good (has_number (take i hands)) (has v)
 
 both_none : (a b g : Bool) → a ≡ false → b ≡ false → (a && g) ≡ (b && g)
 both_none a b g first second = search rules
 
-pub sift-starts : (good : Game → ℕ → Bool) (hands : List ℕ) (v : HandSet) → ((hand : ℕ) → has v hand ≡ false) → Sifting good hands v 0
-sift-starts good hands v none = record { members = λ game hand. both_none (has v hand) (has_number [] hand) (good game hand) (none hand) (has-none hand) }
+pub sift-starts : (good : ℕ → Bool) (hands : List ℕ) (v : HandSet) → ((hand : ℕ) → has v hand ≡ false) → Sifting good hands v 0
+sift-starts good hands v none = record {
+  fewer = λ hand there. absurd (false≢true (sym (none hand) ∙ there));
+  same = λ hand. both_none (has v hand) (has_number [] hand) (good hand) (none hand) (has-none hand);
+}
 
 pushed : (a b e g : Bool) → (a && g) ≡ (b && g) → ((a || e) && g) ≡ ((b || e) && g)
 pushed a b e g h = search rules
@@ -79,47 +88,28 @@ pushed a b e g h = search rules
 passed : (a b e g : Bool) → (a && g) ≡ (b && g) → (e ≡ true → g ≡ false) → (a && g) ≡ ((b || e) && g)
 passed a b e g h bad = search rules
 
-pub sift-push : (good : Game → ℕ → Bool) (hands : List ℕ) (v more : HandSet) (i : ℕ) → Sifting good hands v i → i < length hands
+wider : (a b e : Bool) → (a ≡ true → b ≡ true) → (a || e) ≡ true → (b || e) ≡ true
+wider a b e more there = search rules
+
+pub sift-push : (good : ℕ → Bool) (hands : List ℕ) (v more : HandSet) (i : ℕ) → Sifting good hands v i → i < length hands
     → ((other : ℕ) → has more other ≡ (has v other || get_or hands i 0 == other)) → Sifting good hands more (i + 1)
 sift-push good hands v more i state in_hands more_is = record {
-  members = λ game hand. ap (λ b. b && good game hand) (more_is hand)
-      ∙ pushed (has v hand) (has_number (take i hands) hand) (get_or hands i 0 == hand) (good game hand) (state.members game hand)
-      ∙ ap (λ b. b && good game hand) (sym (has-more hands i hand in_hands));
+  fewer = λ hand there. has-more hands i hand in_hands ∙ wider (has v hand) (has_number (take i hands) hand) (get_or hands i 0 == hand) (state.fewer hand) (sym (more_is hand) ∙ there);
+  same = λ hand. ap (λ b. b && good hand) (more_is hand)
+      ∙ pushed (has v hand) (has_number (take i hands) hand) (get_or hands i 0 == hand) (good hand) (state.same hand)
+      ∙ ap (λ b. b && good hand) (sym (has-more hands i hand in_hands));
 }
 
-pub sift-pass : (good : Game → ℕ → Bool) (hands : List ℕ) (v : HandSet) (i : ℕ) → Sifting good hands v i → i < length hands → ((game : Game) → good game (get_or hands i 0) ≡ false) → Sifting good hands v (i + 1)
+pub sift-pass : (good : ℕ → Bool) (hands : List ℕ) (v : HandSet) (i : ℕ) → Sifting good hands v i → i < length hands → good (get_or hands i 0) ≡ false → Sifting good hands v (i + 1)
 sift-pass good hands v i state in_hands bad = record {
-  members = λ game hand. passed (has v hand) (has_number (take i hands) hand) (get_or hands i 0 == hand) (good game hand) (state.members game hand)
-      (λ same. ap (good game) (sym (eqb-true (get_or hands i 0) hand same)) ∙ bad game)
-      ∙ ap (λ b. b && good game hand) (sym (has-more hands i hand in_hands));
+  fewer = λ hand there. has-more hands i hand in_hands ∙ or_left (has_number (take i hands) hand) (get_or hands i 0 == hand) (state.fewer hand there);
+  same = λ hand. passed (has v hand) (has_number (take i hands) hand) (get_or hands i 0 == hand) (good hand) (state.same hand)
+      (λ same. ap good (sym (eqb-true (get_or hands i 0) hand same)) ∙ bad)
+      ∙ ap (λ b. b && good hand) (sym (has-more hands i hand in_hands));
 }
 
-pub sift-ends : (good : Game → ℕ → Bool) (asked : ℕ → Bool) (hands : List ℕ) (v : HandSet) (i : ℕ) → ((hand : ℕ) → has_number hands hand ≡ asked hand) → length hands ≤ i → Sifting good hands v i
-    → (game : Game) (hand : ℕ) → (has v hand && good game hand) ≡ (asked hand && good game hand)
-sift-ends good asked hands v i listed all state game hand =
-    state.members game hand ∙ ap (λ b. b && good game hand) (has-all hands i hand all ∙ listed hand)
-
--- and no other hand is
-pub record Among (hands : List ℕ) (v : HandSet) (i : ℕ) : Type 0 where
-  pub members : (hand : ℕ) → has v hand ≡ true → has_number (take i hands) hand ≡ true
-
-pub among-starts : (hands : List ℕ) (v : HandSet) → ((hand : ℕ) → has v hand ≡ false) → Among hands v 0
-among-starts hands v none = record { members = λ hand there. absurd (false≢true (sym (none hand) ∙ there)) }
-
-pub among-push : (hands : List ℕ) (v more : HandSet) (i : ℕ) → Among hands v i → i < length hands
-    → ((other : ℕ) → has more other ≡ (has v other || get_or hands i 0 == other)) → Among hands more (i + 1)
-among-push hands v more i state within more_is = record {
-  members = λ hand there. has-more hands i hand within ∙ wider (has v hand) (has_number (take i hands) hand) (get_or hands i 0 == hand) (state.members hand) (sym (more_is hand) ∙ there);
-}
-  where
-    wider : (a b e : Bool) → (a ≡ true → b ≡ true) → (a || e) ≡ true → (b || e) ≡ true
-    wider a b e more there = search rules
-
-pub among-pass : (hands : List ℕ) (v : HandSet) (i : ℕ) → Among hands v i → i < length hands → Among hands v (i + 1)
-among-pass hands v i state within = record { members = λ hand there. has-more hands i hand within ∙ or_left (has_number (take i hands) hand) (get_or hands i 0 == hand) (state.members hand there) }
-
-pub among-ends : (asked : ℕ → Bool) (hands : List ℕ) (v : HandSet) (i : ℕ) → ((hand : ℕ) → has_number hands hand ≡ asked hand) → length hands ≤ i → Among hands v i → (hand : ℕ) → has v hand ≡ true → asked hand ≡ true
-among-ends asked hands v i listed all state hand there = sym (listed hand) ∙ sym (has-all hands i hand all) ∙ state.members hand there
+pub sift-ends : (good asked : ℕ → Bool) (hands : List ℕ) (v : HandSet) (i : ℕ) → ((hand : ℕ) → has_number hands hand ≡ asked hand) → length hands ≤ i → Sifting good hands v i → LeavesOutBad good asked (has v)
+sift-ends good asked hands v i listed all state = same-asked good (has_number (take i hands)) asked (has v) (λ hand. has-all hands i hand all ∙ listed hand) state
 
 -- ---- the greatest counts
 
@@ -218,14 +208,13 @@ raise-more a b counts i most low8 state first second = search (rules, length-set
 -- ---- one part of the hands after the other
 
 -- what fits so far and the rest are hands, and the good ones are among them
-pub record FitsSoFar (good : Game → ℕ → Bool) (hands fit rest : HandSet) : Type 0 where
-  pub fewer : (hand : ℕ) → (has fit hand || has rest hand) ≡ true → has hands hand ≡ true
-  pub each : (game : Game) (hand : ℕ) → ((has fit hand || has rest hand) && good game hand) ≡ (has hands hand && good game hand)
+abbrev pub FitsSoFar : (ℕ → Bool) → HandSet → HandSet → HandSet → Type 0
+FitsSoFar good hands fit rest = LeavesOutBad good (has hands) (λ hand. has fit hand || has rest hand)
 
-pub parts-start : (good : Game → ℕ → Bool) (hands fit rest : HandSet) → ((hand : ℕ) → has fit hand ≡ false) → ((hand : ℕ) → has rest hand ≡ has hands hand) → FitsSoFar good hands fit rest
+pub parts-start : (good : ℕ → Bool) (hands fit rest : HandSet) → ((hand : ℕ) → has fit hand ≡ false) → ((hand : ℕ) → has rest hand ≡ has hands hand) → FitsSoFar good hands fit rest
 parts-start good hands fit rest none same = record {
   fewer = λ hand some. sym (λ i. none hand i || same hand i) ∙ some;
-  each = λ game hand i. (none hand i || same hand i) && good game hand;
+  same = λ hand i. (none hand i || same hand i) && good hand;
 }
 
 part_fits : (fit part others more good : Bool) → (more && good) ≡ (part && good) → (((fit || more) || others) && good) ≡ ((fit || (part || others)) && good)
@@ -238,23 +227,19 @@ part_fewer true part others more fits some = refl
 part_fewer false part others true fits some = ap (λ b. b || others) (fits refl)
 part_fewer false part others false fits some = ap (λ b. part || b) some ∙ or-true part
 
-pub parts-more : (good : Game → ℕ → Bool) (hands fit next rest part others more : HandSet) (numbers : List ℕ) → ((hand : ℕ) → has rest hand ≡ (has part hand || has others hand))
-    → ((hand : ℕ) → has_number numbers hand ≡ has part hand) → ((hand : ℕ) → has more hand ≡ true → has_number numbers hand ≡ true)
-    → ((game : Game) (hand : ℕ) → (has more hand && good game hand) ≡ (has_number numbers hand && good game hand))
+pub parts-more : (good : ℕ → Bool) (hands fit next rest part others more : HandSet) → ((hand : ℕ) → has rest hand ≡ (has part hand || has others hand)) → LeavesOutBad good (has part) (has more)
     → ((hand : ℕ) → has next hand ≡ (has fit hand || has more hand)) → FitsSoFar good hands fit rest → FitsSoFar good hands next others
-parts-more good hands fit next rest part others more numbers cut listed fewer fits merged state = record {
+parts-more good hands fit next rest part others more cut fits merged state = record {
   fewer = λ hand some. state.fewer hand (ap (λ b. has fit hand || b) (cut hand)
-      ∙ part_fewer (has fit hand) (has part hand) (has others hand) (has more hand) (λ is. sym (listed hand) ∙ fewer hand is) (sym (ap (λ b. b || has others hand) (merged hand)) ∙ some));
-  each = λ game hand.
-      ap (λ b. (b || has others hand) && good game hand) (merged hand)
-      ∙ part_fits (has fit hand) (has part hand) (has others hand) (has more hand) (good game hand) (fits game hand ∙ ap (λ b. b && good game hand) (listed hand))
-      ∙ ap (λ b. (has fit hand || b) && good game hand) (sym (cut hand)) ∙ state.each game hand;
+      ∙ part_fewer (has fit hand) (has part hand) (has others hand) (has more hand) (fits.fewer hand) (sym (ap (λ b. b || has others hand) (merged hand)) ∙ some));
+  same = λ hand.
+      ap (λ b. (b || has others hand) && good hand) (merged hand)
+      ∙ part_fits (has fit hand) (has part hand) (has others hand) (has more hand) (good hand) (fits.same hand)
+      ∙ ap (λ b. (has fit hand || b) && good hand) (sym (cut hand)) ∙ state.same hand;
 }
 
-pub parts-end : (good : Game → ℕ → Bool) (hands fit rest : HandSet) → block_count rest ≡ 0 → FitsSoFar good hands fit rest
-    → (game : Game) (hand : ℕ) → (has fit hand && good game hand) ≡ (has hands hand && good game hand)
-parts-end good hands fit rest none state game hand =
-    ap (λ b. b && good game hand) (sym (or-false (has fit hand)) ∙ ap (λ b. has fit hand || b) (sym (none-counted rest none hand))) ∙ state.each game hand
-
-pub parts-end_fewer : (good : Game → ℕ → Bool) (hands fit rest : HandSet) → FitsSoFar good hands fit rest → (hand : ℕ) → has fit hand ≡ true → has hands hand ≡ true
-parts-end_fewer good hands fit rest state hand is = state.fewer hand (ap (λ b. b || has rest hand) is)
+pub parts-end : (good : ℕ → Bool) (hands fit rest : HandSet) → block_count rest ≡ 0 → FitsSoFar good hands fit rest → LeavesOutBad good (has hands) (has fit)
+parts-end good hands fit rest none state = record {
+  fewer = λ hand is. state.fewer hand (ap (λ b. b || has rest hand) is);
+  same = λ hand. ap (λ b. b && good hand) (sym (or-false (has fit hand)) ∙ ap (λ b. has fit hand || b) (sym (none-counted rest none hand))) ∙ state.same hand;
+}

@@ -13,8 +13,9 @@ use Rattle.percent.specs.declared.marks.Marks.{Marks}
 use Rattle.percent.specs.declared.position.Position.{Position}
 use Rattle.percent.specs.BuiltHands.{IsBuiltBy}
 use Rattle.percent.specs.GoodHands.{is_good}
-use Rattle.percent.specs.ListedHands.{AllListHand, ListsHand}
+use Rattle.percent.specs.ListedHands.{AreMarksOf}
 use Rattle.percent.specs.Marks.{HasCounts}
+use Rattle.hands.specs.Numbers.{has_number}
 use Rattle.hands.specs.Weights.{AllowsTaken}
 
 -- no listed tiling of a mark serves a hand
@@ -42,15 +43,6 @@ pub record IsUsedByAll (marks : Marks) (left : ℕ) (hands : List ℕ) (mark : M
 pub record StaysUsed (old new : List Bool) : Type 0 where
   pub size : length new ≡ length old
   pub each : (j : ℕ) → slice_index_or old j false ≡ true → slice_index_or new j false ≡ true
-
--- each of some marks lists the tilings by which these hands are built
-pub record AllListHands (marks : Marks) (left : ℕ) (hands : List ℕ) : Type 0 where
-  pub each : (n : ℕ) → n < length hands → AllListHand marks left (slice_index hands n)
-
--- one mark does
-pub record ListsHands (marks : Marks) (left : ℕ) (hands : List ℕ) (mark : Mark) : Type 0 where
-  pub each : (n : ℕ) → n < length hands
-      → ListsHand (empty_cells marks.cells) marks.drops marks.game.hold left (slice_index hands n) mark
 
 -- the counts of each hand
 pub record AreCountsOf (left : ℕ) (hands : List ℕ) (counts : List (List ℕ)) : Type 0 where
@@ -92,4 +84,4 @@ pub record AreNarrowed (old new : Marks) (left : ℕ) (hands : List ℕ) : Type 
   pub position : new.position ≡ old.position
   pub game : new.game ≡ old.game
   pub size : length new.known.items ≡ length old.known.items
-  pub lists : AllListHands new left hands
+  pub lists : AreMarksOf new left (has_number hands)

@@ -46,6 +46,11 @@ unfoldable pub is_good_at : Game → List Child → ℕ → ℕ → Bool
 is_good_at game children left hand =
     list_any (λ child. is_good game (filled child.position.well) child.position.rows left hand) children
 
+-- some of these hands are there, all that pass a test among them
+pub record LeavesOutBad (test hands fit : ℕ → Bool) : Type 0 where
+  pub fewer : (hand : ℕ) → fit hand ≡ true → hands hand ≡ true
+  pub same : (hand : ℕ) → (fit hand && test hand) ≡ (hands hand && test hand)
+
 abbrev pub game_of : Problem → Game
 game_of problem = record { rules = problem.rules; drop_mode = problem.drop_mode; hold = problem.hold }
 

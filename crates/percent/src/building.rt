@@ -107,9 +107,11 @@ fn served_among(
 }
 
 impl Marks {
-    ghost use Rattle.std.specs.Prelude.{◌+◌, slice_index};
+    ghost use Rattle.std.specs.Prelude.{◌+◌, Contains, slice_index};
+    ghost use Rattle.hands.specs.Numbers.{has_number};
     ghost use Rattle.percent.specs.Building.{AreCountsOf, AreGathered, AreTested, IsBlock, IsHandOf, IsRefused};
-    ghost use Rattle.percent.specs.Building.{IsUsedBy, ListsHands, StaysUsed};
+    ghost use Rattle.percent.specs.Building.{IsUsedBy, StaysUsed};
+    ghost use Rattle.percent.specs.ListedHands.{AreMarksOf};
     ghost use Rattle.percent.specs.Marks.{HasCounts};
 
     /// Those of up to 64 hands that no tiling of a mark serves, one bit each. Notes which tilings serve some of them. A
@@ -176,7 +178,8 @@ impl Marks {
         used: &mut Vec<bool>,
     )
         requires left { left ≤ 20 }
-        requires lists { ListsHands self.now left hands.now mark.now }
+        requires among { Contains self.now.known.items mark.now }
+        requires lists { AreMarksOf self.now left (has_number hands.now) }
         requires block { IsBlock mark.now left hands.now block.now }
         requires size { length used.old.items ≡ length mark.now.tilings.tilings.items }
         requires tested { AreTested self.now.game self.now.position left hands.now may.old.items }
@@ -206,7 +209,8 @@ impl Marks {
         used: &mut Vec<bool>,
     )
         requires left { left ≤ 20 }
-        requires lists { ListsHands self.now left hands.now mark.now }
+        requires among { Contains self.now.known.items mark.now }
+        requires lists { AreMarksOf self.now left (has_number hands.now) }
         requires hand { IsHandOf mark.now left hands.now index }
         requires gathered { AreGathered self.now mark.now left hands.now block.old used.old.items index }
         requires tested { AreTested self.now.game self.now.position left hands.now may.old.items }
@@ -231,7 +235,8 @@ impl Marks {
         used: &mut Vec<bool>,
     )
         requires left { left ≤ 20 }
-        requires lists { ListsHands self.now left hands.now mark.now }
+        requires among { Contains self.now.known.items mark.now }
+        requires lists { AreMarksOf self.now left (has_number hands.now) }
         requires counts { AreCountsOf left hands.now counts.now }
         requires size { length used.old.items ≡ length mark.now.tilings.tilings.items }
         requires tested { AreTested self.now.game self.now.position left hands.now may.old.items }

@@ -1,5 +1,5 @@
 // Leaving out hands whose pieces can't fill the empty cells, before anything is played.
-ghost use Rattle.std.specs.Prelude.{◌≡◌, ◌↔◌, ℕ, ◌≤◌, ◌<◌, ◌&&◌, IsTrue, true, false, IfOk, length, slice_index};
+ghost use Rattle.std.specs.Prelude.{◌≡◌, ◌↔◌, ℕ, ◌≤◌, ◌<◌, IsTrue, true, false, IfOk, length, slice_index};
 ghost use Rattle.empty_cells.specs.Empties.{all_but, empty_cells};
 ghost use Rattle.well.specs.Well.{filled};
 ghost use Rattle.prune.specs.Tiling.{Tiling, supply_in};
@@ -8,7 +8,7 @@ ghost use Rattle.hands.specs.Numbers.{has_number};
 ghost use Rattle.percent.specs.declared.game.Game.{Game};
 ghost use Rattle.percent.specs.Counts.{supply_by};
 ghost use Rattle.percent.specs.Fitting.{codes_in};
-ghost use Rattle.percent.specs.GoodHands.{is_good};
+ghost use Rattle.percent.specs.GoodHands.{LeavesOutBad, is_good};
 
 use crate::position::{Position, hash_of};
 use empty_cells::Empties;
@@ -167,10 +167,8 @@ pub fn fitting(
     hands: &[u64],
 ) -> Result<HandSet, NoMemory>
     requires { left ≤ 20 }
-    ensures fewer { IfOk result (λ fit. (hand : ℕ) → has fit hand ≡ true → has_number hands.now hand ≡ true) }
-    ensures good { IfOk result (λ fit. (game : Game) (hand : ℕ) →
-        (has fit hand && is_good game (filled position.now.well) position.now.rows left hand)
-        ≡ (has_number hands.now hand && is_good game (filled position.now.well) position.now.rows left hand)) }
+    ensures { IfOk result (λ fit. (game : Game) → LeavesOutBad (is_good game (filled position.now.well)
+        position.now.rows left) (has_number hands.now) (has fit)) }
 {
     let mut fit = HandSet::none(alloc);
     if cheap_no(&position.well, position.rows, &[255; 7]) {
@@ -204,10 +202,8 @@ pub fn fitting_in_parts(
     hands: &HandSet,
 ) -> Result<HandSet, NoMemory>
     requires { left ≤ 20 }
-    ensures fewer { IfOk result (λ fit. (hand : ℕ) → has fit hand ≡ true → has hands.now hand ≡ true) }
-    ensures good { IfOk result (λ fit. (game : Game) (hand : ℕ) →
-        (has fit hand && is_good game (filled position.now.well) position.now.rows left hand)
-        ≡ (has hands.now hand && is_good game (filled position.now.well) position.now.rows left hand)) }
+    ensures { IfOk result (λ fit. (game : Game) → LeavesOutBad (is_good game (filled position.now.well)
+        position.now.rows left) (has hands.now) (has fit)) }
 {
     let mut fit = HandSet::none(alloc);
     let mut rest = hands.copied(alloc)?;

@@ -1,7 +1,7 @@
 // The ordered tilings of a position's empty cells by the available pieces: those whose rows can go one after the other.
 // Placements fill the cells in no other tiling. So where a piece stands in none of these, no perfect clear follows.
 // Tilings that serve none of the hands asked about may be left out.
-ghost use Rattle.std.specs.Prelude.{◌≡◌, ◌≤◌, ◌<◌, ◌&&◌, ℕ, IsTrue, IfOk, IfSome, IsSomeAnd, All, true, false, length, slice_index};
+ghost use Rattle.std.specs.Prelude.{◌≡◌, ◌≤◌, ◌<◌, ℕ, IsTrue, IfOk, IfSome, IsSomeAnd, All, true, false, length, slice_index};
 ghost use Rattle.srs.specs.declared.placement.Placement.{Placement};
 ghost use Rattle.well.specs.Well.{filled};
 ghost use Rattle.well.specs.Free.{is_free};
@@ -14,7 +14,7 @@ ghost use Rattle.hands.specs.Numbers.{has_number};
 ghost use Rattle.percent.specs.BuiltHands.{IsHardSrs};
 ghost use Rattle.percent.specs.Children.{IsChild};
 ghost use Rattle.percent.specs.Counts.{codes_with};
-ghost use Rattle.percent.specs.GoodHands.{is_good};
+ghost use Rattle.percent.specs.GoodHands.{LeavesOutBad, is_good};
 ghost use Rattle.percent.specs.Marks.{AreIndexes, HasMarkAt, IsMarkOf, IsStanding, IsTrueMark};
 ghost use Rattle.percent.specs.Spread.{IsSpread};
 
@@ -292,12 +292,8 @@ impl Marks {
         requires child { IsChild self.now.game self.now.position child.now.placement.piece child.now }
         requires rests { AreRestsAt self.now child.now.placement.piece left (has asked.now.rests) }
         requires standing { IsStanding self.now.known.items self.now.rows child.now.placement child.now.standing }
-        ensures fewer { IfOk result (λ likely. (rest : ℕ) → has likely rest ≡ true → has asked.now.rests rest ≡ true) }
-        ensures good { IfOk result (λ likely. (rest : ℕ)
-            → (has likely rest
-            && is_good self.now.game (filled child.now.position.well) child.now.position.rows left rest)
-            ≡ (has asked.now.rests rest
-            && is_good self.now.game (filled child.now.position.well) child.now.position.rows left rest)) }
+        ensures { IfOk result (λ likely. LeavesOutBad (is_good self.now.game (filled child.now.position.well)
+            child.now.position.rows left) (has asked.now.rests) (has likely)) }
     {
         let rests = asked.numbers.as_slice();
         let indexes = asked.indexes.as_slice();
@@ -325,12 +321,8 @@ impl Marks {
         requires child { IsChild self.now.game self.now.position child.now.placement.piece child.now }
         requires rests { AreRestsAt self.now child.now.placement.piece left (has asked.now.rests) }
         requires standing { IsStanding self.now.known.items self.now.rows child.now.placement child.now.standing }
-        ensures fewer { IfOk result (λ likely. (rest : ℕ) → has likely rest ≡ true → has asked.now.rests rest ≡ true) }
-        ensures good { IfOk result (λ likely. (rest : ℕ)
-            → (has likely rest
-            && is_good self.now.game (filled child.now.position.well) child.now.position.rows left rest)
-            ≡ (has asked.now.rests rest
-            && is_good self.now.game (filled child.now.position.well) child.now.position.rows left rest)) }
+        ensures { IfOk result (λ likely. LeavesOutBad (is_good self.now.game (filled child.now.position.well)
+            child.now.position.rows left) (has asked.now.rests) (has likely)) }
     {
         if self.is_empty() && left > 0 {
             return fitting(alloc, fits, &child.position, left, asked.numbers.as_slice());

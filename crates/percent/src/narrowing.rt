@@ -66,12 +66,12 @@ fn used_among(
 }
 
 impl Marks {
-    ghost use Rattle.std.specs.Prelude.{◌&&◌, List, OnOk, vec_len};
+    ghost use Rattle.std.specs.Prelude.{List, OnOk, vec_len};
     ghost use Rattle.well.specs.Well.{filled};
     ghost use Rattle.hands.specs.HandSets.{has};
     ghost use Rattle.percent.specs.declared.marks.Mark.{Mark};
-    ghost use Rattle.percent.specs.Building.{AllListHands, AreNarrowed, AreTested, IsUsedByAll};
-    ghost use Rattle.percent.specs.GoodHands.{is_good};
+    ghost use Rattle.percent.specs.Building.{AreNarrowed, AreTested, IsUsedByAll};
+    ghost use Rattle.percent.specs.GoodHands.{LeavesOutBad, is_good};
     ghost use Rattle.percent.specs.ListedHands.{AreMarksOf};
 
     /// Leaves out the tilings of a mark that are not used. All stay if there is not enough memory for a list without
@@ -80,7 +80,7 @@ impl Marks {
         requires index { index < vec_len self.old.known }
         requires size { (mark : Mark) → slice_get self.old.known.items index ≡ Some mark
             → length used.now ≡ length mark.tilings.tilings.items }
-        ensures { (left : ℕ) (hands : List ℕ) → AllListHands self.old left hands
+        ensures { (left : ℕ) (hands : List ℕ) → AreMarksOf self.old left (has_number hands)
             → ((mark : Mark) → slice_get self.old.known.items index ≡ Some mark
             → IsUsedByAll self.old left hands mark used.now)
             → AreNarrowed self.old self.new left hands }
@@ -108,7 +108,7 @@ impl Marks {
     ) -> Result<(), NoMemory>
         requires left { left ≤ 20 }
         requires index { index < vec_len self.old.known }
-        requires lists { AllListHands self.old left hands.now }
+        requires lists { AreMarksOf self.old left (has_number hands.now) }
         requires counts { AreCountsOf left hands.now counts.now }
         ensures { OnOk result (AreNarrowed self.old self.new left hands.now) }
     {
@@ -140,7 +140,7 @@ impl Marks {
     ) -> Result<(), NoMemory>
         requires left { left ≤ 20 }
         requires index { index < vec_len self.old.known }
-        requires lists { AllListHands self.old left hands.now }
+        requires lists { AreMarksOf self.old left (has_number hands.now) }
         requires counts { AreCountsOf left hands.now counts.now }
         requires tested { AreTested self.old.game self.old.position left hands.now may.old.items }
         ensures narrowed { OnOk result (AreNarrowed self.old self.new left hands.now) }
@@ -157,7 +157,7 @@ impl Marks {
     /// out.
     fn narrow(&mut self, alloc: Global, left: u8, hands: &[u64]) -> Result<Vec<bool>, NoMemory>
         requires left { left ≤ 20 }
-        requires lists { AllListHands self.old left hands.now }
+        requires lists { AreMarksOf self.old left (has_number hands.now) }
         ensures narrowed { OnOk result (AreNarrowed self.old self.new left hands.now) }
         ensures tested { IfOk result (λ may. AreTested self.old.game self.old.position left hands.now may.items) }
     {
@@ -196,10 +196,8 @@ impl Marks {
         ensures game { OnOk result (self.new.game ≡ self.old.game) }
         ensures position { OnOk result (self.new.position ≡ self.old.position) }
         ensures lists { IfOk result (λ likely. AreMarksOf self.new left (has likely)) }
-        ensures good { IfOk result (λ likely. (hand : ℕ) → (has likely hand
-            && is_good self.old.game (filled self.old.position.well) self.old.position.rows left hand)
-            ≡ (has hands.now hand
-            && is_good self.old.game (filled self.old.position.well) self.old.position.rows left hand)) }
+        ensures good { IfOk result (λ likely. LeavesOutBad (is_good self.old.game (filled self.old.position.well)
+            self.old.position.rows left) (has hands.now) (has likely)) }
     {
         let all = hands.numbers(alloc)?;
         let numbers = all.as_slice();

@@ -167,7 +167,7 @@ tried-loop-child-preserved g t c = (
       (λ rest. c.in_ok-good.ensures.members rest
       ∙ subst (λ (game : Game). (has c.in_ok-fit.fit rest && is_good game (filled c.child-item.result.position.well) c.child-item.result.position.rows c.args.left rest)
       ≡ (has c.loop-child.asked.rests rest && is_good game (filled c.child-item.result.position.well) c.child-item.result.position.rows c.args.left rest))
-      (sym (c.loop-child.invariant.0.same ∙ c.requires.game)) (c.in_ok-fit.ensures.good rest))
+      (sym (c.loop-child.invariant.0.same ∙ c.requires.game)) (c.in_ok-fit.ensures.same rest))
       c.in_ok-good.ensures.game c.in_ok-good.ensures.counted c.in_ok-asked-2.ensures.members,
   c.in_ok-asked-2.ensures.indexes,
 )

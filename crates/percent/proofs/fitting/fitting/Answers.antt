@@ -1,19 +1,18 @@
 -- A hand is left out where its pieces fill nothing.
-use Rattle.std.proofs.Common.{◌≤◌, ◌+◌, [], ◌∷◌, get_or, refl, sym, ◌∙◌, arith}
-use Rattle.std.proofs.lemmas.Bool.{false≢true}
+use Rattle.std.proofs.Common.{◌≤◌, ◌+◌, [], ◌∷◌, get_or, refl, arith}
 use Rattle.srs.specs.declared.piece.Piece.{Piece}
 use Rattle.srs.specs.declared.piece.Piece.TheVariants.{I, L, O, Z, T, J, S}
 use Rattle.well.specs.Well.{filled}
 use Rattle.prune.specs.Tiling.{supply_in}
 use Rattle.hands.specs.Numbers.{has_number}
 use Rattle.percent.specs.GoodHands.{is_good}
-use Rattle.percent.proofs.FittingLemmas.{among-ends, among-pass, among-push, among-starts, none-kept, refused, sift-ends, sift-pass, sift-push, sift-starts, unfit}
+use Rattle.percent.proofs.FittingLemmas.{none-kept, refused, sift-ends, sift-pass, sift-push, sift-starts, unfit}
 use Rattle.percent.proofs.fitting.fitting.Goals as goal
 use Rattle.percent.proofs.fitting.fitting.Goals.{then-may_fit+in_ok-insert, else-may_fit}
 
-pub returns-then-cheap_no-clause-good : goal.returns-then-cheap_no-clause-good
+pub returns-then-cheap_no : goal.returns-then-cheap_no
 unfolding supply_in
-returns-then-cheap_no-clause-good c = λ game.
+returns-then-cheap_no c = λ game.
     let p = c.args.position.now in
     none-kept c.none-fit.result (has_number c.args.hands.now) (is_good game (filled p.well) p.rows c.args.left)
     (λ hand _. refused game p c.args.left hand (c.args.left + 1) _ refl (omega (arith, c.requires)) many (c.cheap_no.ensures.none c.if-cheap_no.true))
@@ -28,53 +27,36 @@ returns-then-cheap_no-clause-good c = λ game.
     many J = omega arith
     many S = omega arith
 
-pub returns-then-not-may_fit-clause-good : goal.returns-then-not-may_fit-clause-good
-returns-then-not-may_fit-clause-good c = λ game.
+pub returns-then-not-may_fit : goal.returns-then-not-may_fit
+returns-then-not-may_fit c = λ game.
     let p = c.args.position.now in
     none-kept c.none-fit.result (has_number c.args.hands.now) (is_good game (filled p.well) p.rows c.args.left)
     (λ hand there. unfit game p c.below-cells.result c.greatest_counts.result c.args.left hand (c.args.left + 1) refl c.below-cells.ensures
     (c.greatest_counts.ensures hand there) (c.may_fit.ensures c.if-not-may_fit.true))
     c.none-fit.ensures.none
 
-pub returns-then-cheap_no-clause-fewer : goal.returns-then-cheap_no-clause-fewer
-returns-then-cheap_no-clause-fewer c = λ hand there. absurd (false≢true (sym (c.none-fit.ensures.none hand) ∙ there))
-
-pub returns-then-not-may_fit-clause-fewer : goal.returns-then-not-may_fit-clause-fewer
-returns-then-not-may_fit-clause-fewer c = λ hand there. absurd (false≢true (sym (c.none-fit.ensures.none hand) ∙ there))
-
 pub loop-hand-init : goal.loop-hand-init
-loop-hand-init c =
-    let p = c.args.position.now in (
-      sift-starts (λ game. is_good game (filled p.well) p.rows c.args.left) c.args.hands.now c.none-fit.result c.none-fit.ensures.none,
-      among-starts c.args.hands.now c.none-fit.result c.none-fit.ensures.none,
-    )
+loop-hand-init c = λ game.
+    let p = c.args.position.now in
+    sift-starts (is_good game (filled p.well) p.rows c.args.left) c.args.hands.now c.none-fit.result c.none-fit.ensures.none
 
 pub loop-hand-preserved : goal.loop-hand-preserved
-loop-hand-preserved c =
+loop-hand-preserved c = λ game.
     let p = c.args.position.now in
     let hands = c.args.hands.now in
     let i = c.loop-hand.hand-index in
     elim c.if-may_fit.branch [
       | then-may_fit+in_ok-insert w ↦
-          rw w.fit-is (
-            sift-push (λ game. is_good game (filled p.well) p.rows c.args.left) hands c.loop-hand.fit _ i c.loop-hand.invariant.0 c.loop-hand-test.true w.in_ok-insert.ensures.inserted,
-            among-push hands c.loop-hand.fit _ i c.loop-hand.invariant.1 c.loop-hand-test.true w.in_ok-insert.ensures.inserted,
-          )
+          rw w.fit-is (sift-push (is_good game (filled p.well) p.rows c.args.left) hands c.loop-hand.fit _ i (c.loop-hand.invariant game) c.loop-hand-test.true w.in_ok-insert.ensures.inserted)
       | else-may_fit w ↦
-          rw w.fit-is (
-            sift-pass (λ game. is_good game (filled p.well) p.rows c.args.left) hands c.loop-hand.fit i c.loop-hand.invariant.0 c.loop-hand-test.true
-                (λ game. unfit game p c.below-cells.result c.counts_of.result c.args.left (get_or hands i 0) (c.args.left + 1) refl c.below-cells.ensures
-                (λ code few. let equal = c.counts_of.ensures.each code few in omega (arith, equal)) (c.may_fit-in-loop-hand.ensures w.if-may_fit.false)),
-            among-pass hands c.loop-hand.fit i c.loop-hand.invariant.1 c.loop-hand-test.true,
-          )
+          rw w.fit-is
+          (sift-pass (is_good game (filled p.well) p.rows c.args.left) hands c.loop-hand.fit i (c.loop-hand.invariant game) c.loop-hand-test.true
+          (unfit game p c.below-cells.result c.counts_of.result c.args.left (get_or hands i 0) (c.args.left + 1) refl c.below-cells.ensures
+          (λ code few. let equal = c.counts_of.ensures.each code few in omega (arith, equal)) (c.may_fit-in-loop-hand.ensures w.if-may_fit.false)))
     ]
 
-pub returns-clause-fewer : goal.returns-clause-fewer
-returns-clause-fewer c =
-    among-ends (has_number c.args.hands.now) c.args.hands.now c.loop-hand.fit c.loop-hand.hand-index (λ _. refl) c.loop-hand-test.false c.loop-hand.invariant.1
-
-pub returns-clause-good : goal.returns-clause-good
-returns-clause-good c =
+pub returns : goal.returns
+returns c = λ game.
     let p = c.args.position.now in
-    sift-ends (λ game. is_good game (filled p.well) p.rows c.args.left) (has_number c.args.hands.now) c.args.hands.now c.loop-hand.fit c.loop-hand.hand-index
-    (λ _. refl) c.loop-hand-test.false c.loop-hand.invariant.0
+    sift-ends (is_good game (filled p.well) p.rows c.args.left) (has_number c.args.hands.now) c.args.hands.now c.loop-hand.fit c.loop-hand.hand-index
+    (λ _. refl) c.loop-hand-test.false (c.loop-hand.invariant game)

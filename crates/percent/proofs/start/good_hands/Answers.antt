@@ -19,7 +19,7 @@ returns-clause-members g c =
     IfOk-weaker c.answered_first.result _ _
     (λ v h hand.
     h hand
-    ∙ c.in_ok-fit.ensures.good kept.game hand
+    ∙ (c.in_ok-fit.ensures kept.game).same hand
     ∙ (λ i. has c.args.hands.now hand
     && is_good (c.new-kept.ensures i) (filled (c.first_position-position.ensures.well i)) (c.first_position-position.ensures.rows i) (c.needed-left.ensures i) hand))
     c.answered_first.ensures.members

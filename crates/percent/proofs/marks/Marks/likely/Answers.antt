@@ -6,17 +6,15 @@ use Rattle.hands.specs.Numbers.{has_number}
 use Rattle.well.specs.Well.{filled}
 use Rattle.percent.specs.GoodHands.{is_good}
 use Rattle.percent.specs.Marks.{AreIndexes, IsMarkOf}
-use Rattle.percent.proofs.FittingLemmas.{among-ends, among-pass, among-push, among-starts, has-listed, sift-ends, sift-pass, sift-push, sift-starts}
+use Rattle.percent.proofs.FittingLemmas.{has-listed, sift-ends, sift-pass, sift-push, sift-starts}
 use Rattle.percent.proofs.MarkLemmas.{bad-stand, mark-there}
 use Rattle.percent.proofs.marks.Marks.likely.Goals as goal
 use Rattle.percent.proofs.marks.Marks.likely.Goals.{then-may_stand+in_ok-insert, else-may_stand}
 
 pub loop-index-init : goal.loop-index-init
 loop-index-init c =
-    let p = c.args.child.now.position in (
-      sift-starts (λ _. is_good c.args.self.now.game (filled p.well) p.rows c.args.left) c.as_slice-rests.result.now c.in_ok-likely.likely c.in_ok-likely.ensures,
-      among-starts c.as_slice-rests.result.now c.in_ok-likely.likely c.in_ok-likely.ensures,
-    )
+    let p = c.args.child.now.position in
+    sift-starts (is_good c.args.self.now.game (filled p.well) p.rows c.args.left) c.as_slice-rests.result.now c.in_ok-likely.likely c.in_ok-likely.ensures
 
 pub loop-index-preserved : goal.loop-index-preserved
 loop-index-preserved c =
@@ -28,29 +26,20 @@ loop-index-preserved c =
     let within : index < length rests = omega (arith, c.loop-index-test.true) in
     elim c.if-may_stand.branch [
       | then-may_stand+in_ok-insert w ↦
-          rw w.likely-is (
-            sift-push (λ _. is_good marks.game (filled p.well) p.rows c.args.left) rests c.loop-index.likely _ index c.loop-index.invariant.0 within w.in_ok-insert.ensures.inserted,
-            among-push rests c.loop-index.likely _ index c.loop-index.invariant.1 within w.in_ok-insert.ensures.inserted,
-          )
+          rw w.likely-is (sift-push (is_good marks.game (filled p.well) p.rows c.args.left) rests c.loop-index.likely _ index c.loop-index.invariant within w.in_ok-insert.ensures.inserted)
       | else-may_stand w ↦
           let are : AreIndexes marks.known.items piece c.args.left rests c.as_slice-indexes.result.now =
           subst (λ l. AreIndexes marks.known.items piece c.args.left l c.as_slice-indexes.result.now) (sym c.as_slice-rests.ensures.value)
           (subst (λ l. AreIndexes marks.known.items piece c.args.left c.args.asked.now.numbers.items l) (sym c.as_slice-indexes.ensures.value) c.requires.indexes) in
           let mark = mark-there (IsMarkOf marks.known.items piece c.args.left (get_or rests index 0)) _ (get_or c.as_slice-indexes.result.now index None) (are.each index within) (c.may_stand.ensures w.if-may_stand.false) in
           let asked : has c.args.asked.now.rests (get_or rests index 0) ≡ true = has-listed c.args.asked.now.rests rests index (λ rest. ap (λ l. has_number l rest) c.as_slice-rests.ensures.value ∙ c.args.asked.now.listed rest) within in
-          rw w.likely-is (
-            sift-pass (λ _. is_good marks.game (filled p.well) p.rows c.args.left) rests c.loop-index.likely index c.loop-index.invariant.0 within
-                (λ _. bad-stand marks c.args.child.now c.args.left (get_or rests index 0) mark.0 c.requires.child (c.requires.rests.each (get_or rests index 0) asked) mark.1 c.requires.standing mark.2.1),
-            among-pass rests c.loop-index.likely index c.loop-index.invariant.1 within,
-          )
+          rw w.likely-is
+          (sift-pass (is_good marks.game (filled p.well) p.rows c.args.left) rests c.loop-index.likely index c.loop-index.invariant within
+          (bad-stand marks c.args.child.now c.args.left (get_or rests index 0) mark.0 c.requires.child (c.requires.rests.each (get_or rests index 0) asked) mark.1 c.requires.standing mark.2.1))
     ]
 
-pub returns-clause-fewer : goal.returns-clause-fewer
-returns-clause-fewer c =
-    among-ends (has c.args.asked.now.rests) c.as_slice-rests.result.now c.loop-index.likely c.loop-index.index (λ rest. ap (λ l. has_number l rest) c.as_slice-rests.ensures.value ∙ c.args.asked.now.listed rest) (omega (arith, c.loop-index-test.false)) c.loop-index.invariant.1
-
-pub returns-clause-good : goal.returns-clause-good
-returns-clause-good c =
+pub returns : goal.returns
+returns c =
     let p = c.args.child.now.position in
-    sift-ends (λ _. is_good c.args.self.now.game (filled p.well) p.rows c.args.left) (has c.args.asked.now.rests) c.as_slice-rests.result.now c.loop-index.likely c.loop-index.index
-    (λ rest. ap (λ l. has_number l rest) c.as_slice-rests.ensures.value ∙ c.args.asked.now.listed rest) (omega (arith, c.loop-index-test.false)) c.loop-index.invariant.0 c.args.self.now.game
+    sift-ends (is_good c.args.self.now.game (filled p.well) p.rows c.args.left) (has c.args.asked.now.rests) c.as_slice-rests.result.now c.loop-index.likely c.loop-index.index
+    (λ rest. ap (λ l. has_number l rest) c.as_slice-rests.ensures.value ∙ c.args.asked.now.listed rest) (omega (arith, c.loop-index-test.false)) c.loop-index.invariant

@@ -2,7 +2,7 @@
 use Rattle.std.proofs.Common.{◌<◌, ◌∙◌, get_or, subst, sym, arith}
 use Rattle.std.proofs.lemmas.List.{get_or-take, length-take}
 use Rattle.percent.specs.Building.{IsRefused, IsUsedBy}
-use Rattle.percent.proofs.BuildingLemmas.{refused-bad, tested-bad}
+use Rattle.percent.proofs.BuildingLemmas.{one-lists, refused-bad, tested-bad}
 use Rattle.percent.proofs.marks.Marks.note.Goals as goal
 use Rattle.percent.proofs.marks.Marks.note.Goals.{then-has_bit, else-has_bit}
 
@@ -23,7 +23,7 @@ loop-k-preserved c =
           (c.unserved-unserved.ensures.unserved k (omega (arith, long, block.few)) there) in
           rw w.may-is
           (tested-bad marks.game marks.position c.args.left hands c.loop-k.may.items (get_or block.indexes k 0) hand.within
-          (refused-bad marks c.args.left (get_or hands (get_or block.indexes k 0) 0) c.args.mark.now hand.counts (c.requires.lists.each (get_or block.indexes k 0) hand.within) refused) c.loop-k.invariant)
+          (refused-bad marks c.args.left (get_or hands (get_or block.indexes k 0) 0) c.args.mark.now hand.counts (one-lists marks c.args.left hands c.args.mark.now (get_or block.indexes k 0) c.requires.among c.requires.lists hand.within) refused) c.loop-k.invariant)
       | else-has_bit w ↦ rw w.may-is c.loop-k.invariant
     ]
 
