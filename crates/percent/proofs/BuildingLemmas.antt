@@ -1,10 +1,10 @@
 -- Hands that no listed tiling of their mark serves are not good. Of the others the tilings that serve them are used.
-use Rattle.std.proofs.Common.{◌≡◌, ◌↔◌, ℕ, ◌+◌, ◌<◌, ◌≤◌, ◌==◌, ◌&&◌, ◌||◌, ◌/◌, Bool, true, false, not, List, [], ◌∷◌, ◌++◌, length, length-append, length-set, get_or, take, refl, sym, ap, subst, ◌∙◌, inl, inr, arith, div-one}
+use Rattle.std.proofs.Common.{◌≡◌, ◌↔◌, ℕ, ◌+◌, ◌<◌, ◌≤◌, ◌==◌, ◌&&◌, ◌||◌, ◌/◌, Bool, true, false, not, List, [], ◌∷◌, ◌++◌, length, length-append, length-set, get_or, drop, take, refl, sym, ap, subst, ◌∙◌, inl, inr, arith, div-one}
 use Rattle.std.proofs.Common.{set as list_set}
 use Rattle.std.specs.Prelude.{All, Contains, Some, slice_get}
 use Rattle.std.proofs.lemmas.Bool.{and_parts, cases_eq, cases_lt, eq-eqb, eqb-true, false≢true, not-false, not-true, or_left, or_parts, or_right, true_from_ne_false}
 use Rattle.std.proofs.lemmas.Grind.{get_or-set_at, same_number_lists}
-use Rattle.std.proofs.lemmas.List.{get_or_append_left, get_or_default, get_or_push, get_or-set_other, take_all, take_more}
+use Rattle.std.proofs.lemmas.List.{get_or_append_left, get_or-drop, get_or_default, get_or_push, get_or-set_other, get_or-take, length-drop, length-take-le, take_all, take_more}
 use Rattle.std.proofs.lemmas.List.Elements.{All-set, Contains-append_left, Contains-append_right, Contains-push_cases}
 use Rattle.std.proofs.lemmas.Option.{get_or_from_slice_get, slice_get_read, slice_get_within}
 use Rattle.lane_board.specs.Field.{Field}
@@ -16,12 +16,11 @@ use Rattle.hands.proofs.CallerLemmas.{has-push, has-there, number-at}
 use Rattle.empty_cells.specs.Empties.{empty_cells}
 use Rattle.tiled_pieces.specs.declared.listed.ListedTiling.{ListedTiling}
 use Rattle.tiled_pieces.specs.Served.{IsServed}
-use Rattle.percent.specs.declared.building.Block.{Block}
 use Rattle.percent.specs.declared.game.Game.{Game}
 use Rattle.percent.specs.declared.marks.Mark.{Mark}
 use Rattle.percent.specs.declared.marks.Marks.{Marks}
 use Rattle.percent.specs.declared.position.Position.{Position}
-use Rattle.percent.specs.Building.{AreCountsOf, AreGathered, AreTested, IsHandOf, IsRefused, IsUsedBy, IsUsedByAll, StaysUsed}
+use Rattle.percent.specs.Building.{AreCountsOf, AreNarrowed, AreOwn, AreTested, HasOwn, IsOwn, IsRefused, IsUsedBy, IsUsedByAll, KeepsCounts, StaysUsed, Tests}
 use Rattle.hands.specs.Weights.{AreNoted}
 use Rattle.percent.specs.GoodHands.{is_good}
 use Rattle.percent.specs.ListedHands.{AreMarksOf, ListsHand}
@@ -148,69 +147,6 @@ pub refused-bad : (marks : Marks) (left hand : ℕ) (mark : Mark) → HasCounts 
     → is_good marks.game (filled marks.position.well) marks.position.rows left hand ≡ false
 refused-bad marks left hand mark counts lists refused = unserved-bad marks left hand refused.bit refused.weights refused.allowed mark counts lists refused.allows refused.none
 
--- ---- hands that are gathered
-
--- a hand with other pieces
-pub gathered-pass : (marks : Marks) (mark : Mark) (left : ℕ) (hands : List ℕ) (block : Block) (used : List Bool) (i : ℕ) → (HasCounts mark.counts left (get_or hands i 0) → ⊥)
-    → AreGathered marks mark left hands block used i → AreGathered marks mark left hands block used (i + 1)
-gathered-pass marks mark left hands block used i other state = record {
-  size = state.size;
-  those = state.those;
-  each = λ n low counts. elim (cases_lt n i) [
-    | inl before ↦ state.each n before counts
-    | inr past ↦ let same : n ≡ i = omega arith in absurd (other (subst (λ n. HasCounts mark.counts left (get_or hands n 0)) same counts))
-  ];
-}
-
--- a block that is tested and emptied
-pub gathered-noted : (marks : Marks) (mark : Mark) (left : ℕ) (hands : List ℕ) (block next : Block) (old new : List Bool) (i : ℕ) → StaysUsed old new
-    → ((k : ℕ) → k < block.len → IsUsedBy marks left mark.tilings.tilings.items new (get_or hands (get_or block.indexes k 0) 0)) → next.len ≡ 0
-    → AreGathered marks mark left hands block old i → AreGathered marks mark left hands next new i
-gathered-noted marks mark left hands block next old new i stays used none state = record {
-  size = stays.size ∙ state.size;
-  those = record { each = λ k below. absurd (omega (arith, none)) };
-  each = λ n low counts. inr (elim (state.each n low counts) [
-    | inl here ↦ subst (λ n. IsUsedBy marks left mark.tilings.tilings.items new (get_or hands n 0)) here.here (used here.k here.low)
-    | inr before ↦ used-stays marks left (get_or hands n 0) mark.tilings.tilings.items old new stays before
-  ]);
-}
-
--- a hand more
-pub gathered-more : (marks : Marks) (mark : Mark) (left : ℕ) (hands : List ℕ) (old new : Block) (used : List Bool) (i : ℕ) → old.len < 64 → new.len ≡ old.len + 1 → new.indexes ≡ list_set old.indexes old.len i
-    → IsHandOf mark left hands i → AreGathered marks mark left hands old used i → AreGathered marks mark left hands new used (i + 1)
-gathered-more marks mark left hands old new used i room long is here state = record {
-  size = state.size;
-  those = record {
-    each = λ k below. elim (cases_lt k old.len) [
-      | inl before ↦ subst (IsHandOf mark left hands) (sym (kept k before)) (state.those.each k before)
-      | inr past ↦ subst (IsHandOf mark left hands) (sym (last k (omega (arith, below, long, past)))) here
-    ];
-  };
-  each = λ n low counts. elim (cases_lt n i) [
-    | inr past ↦ inl (record { k = old.len; low = omega (arith, long); here = let same : i ≡ n = omega arith in last old.len (λ j. old.len) ∙ same })
-    | inl before ↦ elim (state.each n before counts) [
-      | inl there ↦ inl (record { k = there.k; low = let low = there.low in omega (arith, long, low); here = kept there.k there.low ∙ there.here })
-      | inr used ↦ inr used
-    ]
-  ];
-}
-  where
-    kept : (k : ℕ) → k < old.len → get_or new.indexes k 0 ≡ get_or old.indexes k 0
-    kept k before = ap (λ l. get_or l k 0) is ∙ get_or-set_other old.indexes old.len k i 0 (λ same. absurd (omega (arith, same, before)))
-
-    last : (k : ℕ) → k ≡ old.len → get_or new.indexes k 0 ≡ i
-    last k same = ap (λ l. get_or l k 0) is ∙ get_or-set_at old.indexes old.len k i 0 same (omega (arith, room, old.size))
-
--- all hands are gathered, and the last block is tested
-pub gathered-ends : (marks : Marks) (mark : Mark) (left : ℕ) (hands : List ℕ) (block : Block) (old new : List Bool) (i n : ℕ) → length hands ≤ i → StaysUsed old new
-    → ((k : ℕ) → k < block.len → IsUsedBy marks left mark.tilings.tilings.items new (get_or hands (get_or block.indexes k 0) 0))
-    → AreGathered marks mark left hands block old i → n < length hands → HasCounts mark.counts left (get_or hands n 0)
-    → IsUsedBy marks left mark.tilings.tilings.items new (get_or hands n 0)
-gathered-ends marks mark left hands block old new i n all stays used state within counts = elim (state.each n (omega (arith, all, within)) counts) [
-  | inl here ↦ subst (λ n. IsUsedBy marks left mark.tilings.tilings.items new (get_or hands n 0)) here.here (used here.k here.low)
-  | inr before ↦ used-stays marks left (get_or hands n 0) mark.tilings.tilings.items old new stays before
-]
-
 -- ---- hands that are tested
 
 -- a hand that is bad
@@ -256,41 +192,117 @@ counts-end left hands counts i all state = record { size = state.size ∙ all; e
 pub same-counts : (left hand : ℕ) (a b : List ℕ) → HasCounts a left hand → HasCounts b left hand → a ≡ b
 same-counts left hand a b first second = same_number_lists a b (first.size ∙ sym second.size) (λ k low. let few : k < 8 = omega (arith, low, first.size) in first.each k few ∙ sym (second.each k few))
 
+pub part-length : (l : List ℕ) (start size : ℕ) → start + size ≤ length l → length (take size (drop start l)) ≡ size
+part-length l start size within = length-take-le size (drop start l) (let rest = length-drop start l in omega (arith, rest, within))
+
+pub part-at : (l : List ℕ) (start size k : ℕ) → k < size → get_or (take size (drop start l)) k 0 ≡ get_or l (start + k) 0
+part-at l start size k low = get_or-take size (drop start l) k 0 low ∙ get_or-drop start l k 0
+
 -- ---- the hands of a mark
 
--- those of the first i hands that have these counts are there
-pub record AreOwn (hands : List ℕ) (counts : List (List ℕ)) (wanted own : List ℕ) (i : ℕ) : Type 0 where
-  pub each : (n : ℕ) → n < i → get_or counts n [] ≡ wanted → has_number own (get_or hands n 0) ≡ true
+-- those of the first i hands that have these counts, and no others
+pub record OwnSoFar (wanted : List ℕ) (left : ℕ) (hands own indexes : List ℕ) (i : ℕ) : Type 0 where
+  pub those : AreOwn wanted left hands own indexes
+  pub all : (n : ℕ) → n < i → HasCounts wanted left (get_or hands n 0) → has_number own (get_or hands n 0) ≡ true
 
-pub own-starts : (hands : List ℕ) (counts : List (List ℕ)) (wanted own : List ℕ) → AreOwn hands counts wanted own 0
-own-starts hands counts wanted own = record { each = λ n low. absurd (omega arith) }
+pub own-starts : (wanted : List ℕ) (left : ℕ) (hands own indexes : List ℕ) → own ≡ [] → indexes ≡ [] → OwnSoFar wanted left hands own indexes 0
+own-starts wanted left hands own indexes none nil = record {
+  those = record { size = ap length nil ∙ sym (ap length none); each = λ k low. let size : length own ≡ 0 = ap length none in absurd (omega (arith, size)) };
+  all = λ n low. absurd (omega arith);
+}
 
-pub own-more : (hands : List ℕ) (counts : List (List ℕ)) (wanted own : List ℕ) (i : ℕ) → AreOwn hands counts wanted own i → AreOwn hands counts wanted (own ++ get_or hands i 0 ∷ []) (i + 1)
-own-more hands counts wanted own i state = record {
-  each = λ n low is. has-push own (get_or hands i 0) (get_or hands n 0) ∙ elim (cases_lt n i) [
-    | inl before ↦ or_left (has_number own (get_or hands n 0)) (get_or hands i 0 == get_or hands n 0) (state.each n before is)
+pub own-more : (wanted : List ℕ) (left : ℕ) (hands own indexes : List ℕ) (i : ℕ) → i < length hands → HasCounts wanted left (get_or hands i 0)
+    → OwnSoFar wanted left hands own indexes i → OwnSoFar wanted left hands (own ++ get_or hands i 0 ∷ []) (indexes ++ i ∷ []) (i + 1)
+own-more wanted left hands own indexes i within here state = record {
+  those = record {
+    size = let a = length-append own (get_or hands i 0 ∷ []) in let b = length-append indexes (i ∷ []) in let size = state.those.size in omega (arith, a, b, size);
+    each = λ k below. elim (cases_lt k (length own)) [
+      | inl before ↦
+          let hand : get_or (own ++ get_or hands i 0 ∷ []) k 0 ≡ get_or own k 0 = get_or_append_left own (get_or hands i 0 ∷ []) 0 k before in
+          let index : get_or (indexes ++ i ∷ []) k 0 ≡ get_or indexes k 0 = get_or_append_left indexes (i ∷ []) 0 k (let size = state.those.size in omega (arith, size)) in
+          let is = state.those.each k before in
+          subst (IsOwn wanted left hands (get_or (own ++ get_or hands i 0 ∷ []) k 0)) (sym index) (subst (λ h. IsOwn wanted left hands h (get_or indexes k 0)) (sym hand) is)
+      | inr past ↦
+          let long = length-append own (get_or hands i 0 ∷ []) in
+          let last : k ≡ length own = omega (arith, long) in
+          let hand : get_or (own ++ get_or hands i 0 ∷ []) k 0 ≡ get_or hands i 0 = get_or_push own (get_or hands i 0) 0 k (sym last) in
+          let index : get_or (indexes ++ i ∷ []) k 0 ≡ i = get_or_push indexes i 0 k (state.those.size ∙ sym last) in
+          subst (IsOwn wanted left hands (get_or (own ++ get_or hands i 0 ∷ []) k 0)) (sym index)
+          (subst (λ h. IsOwn wanted left hands h i) (sym hand) (record { within = within; there = refl; counts = here }))
+    ];
+  };
+  all = λ n low counts. has-push own (get_or hands i 0) (get_or hands n 0) ∙ elim (cases_lt n i) [
+    | inl before ↦ or_left (has_number own (get_or hands n 0)) (get_or hands i 0 == get_or hands n 0) (state.all n before counts)
     | inr past ↦
         let same : i ≡ n = omega arith in
         or_right (has_number own (get_or hands n 0)) (get_or hands i 0 == get_or hands n 0) (eq-eqb (get_or hands i 0) (get_or hands n 0) (ap (λ k. get_or hands k 0) same))
   ];
 }
 
-pub own-pass : (hands : List ℕ) (counts : List (List ℕ)) (wanted own : List ℕ) (i : ℕ) → (get_or counts i [] ≡ wanted → ⊥) → AreOwn hands counts wanted own i → AreOwn hands counts wanted own (i + 1)
-own-pass hands counts wanted own i other state = record {
-  each = λ n low is. elim (cases_lt n i) [
-    | inl before ↦ state.each n before is
-    | inr past ↦ let same : n ≡ i = omega arith in absurd (other (ap (λ k. get_or counts k []) (sym same) ∙ is))
+pub own-pass : (wanted : List ℕ) (left : ℕ) (hands own indexes : List ℕ) (i : ℕ) → (HasCounts wanted left (get_or hands i 0) → ⊥) → OwnSoFar wanted left hands own indexes i → OwnSoFar wanted left hands own indexes (i + 1)
+own-pass wanted left hands own indexes i other state = record {
+  those = state.those;
+  all = λ n low counts. elim (cases_lt n i) [
+    | inl before ↦ state.all n before counts
+    | inr past ↦ let same : n ≡ i = omega arith in absurd (other (subst (λ n. HasCounts wanted left (get_or hands n 0)) same counts))
   ];
 }
 
+pub own-ends : (wanted : List ℕ) (left : ℕ) (hands own indexes : List ℕ) (i : ℕ) → length hands ≤ i → OwnSoFar wanted left hands own indexes i → HasOwn wanted left hands own
+own-ends wanted left hands own indexes i all state = record {
+  each = λ hand there counts.
+      let at = number-at hands hand there in
+      let low = at.1 in
+      subst (λ h. has_number own h ≡ true) at.2 (state.all at.0 (omega (arith, low, all)) (subst (HasCounts wanted left) (sym at.2) counts));
+}
+
+-- a part of them
+pub own-part : (wanted : List ℕ) (left : ℕ) (hands own indexes : List ℕ) (start size : ℕ) → start + size ≤ length own → AreOwn wanted left hands own indexes
+    → AreOwn wanted left hands (take size (drop start own)) (take size (drop start indexes))
+own-part wanted left hands own indexes start size within are = record {
+  size = part-length indexes start size (let same = are.size in omega (arith, same, within)) ∙ sym (part-length own start size within);
+  each = λ k below.
+      let low : k < size = let long = part-length own start size within in omega (arith, long, below) in
+      subst (IsOwn wanted left hands (get_or (take size (drop start own)) k 0)) (sym (part-at indexes start size k low))
+      (subst (λ h. IsOwn wanted left hands h (get_or indexes (start + k) 0)) (sym (part-at own start size k low)) (are.each (start + k) (omega (arith, low, within))));
+}
+
+-- a mark lists the tilings by which one of the hands is built if all marks do
+one-lists : (marks : Marks) (left : ℕ) (hands : ℕ → Bool) (mark : Mark) (hand : ℕ) → Contains marks.known.items mark → AreMarksOf marks left hands → hands hand ≡ true
+    → ListsHand (empty_cells marks.cells) marks.drops marks.game.hold left hand mark
+one-lists marks left hands mark hand among all there = subst (ListsHand (empty_cells marks.cells) marks.drops marks.game.hold left hand) among.2 (all.each hand there among.0 mark among.1)
+
+pub tests-none : (marks : Marks) (wanted : List ℕ) (left : ℕ) (own indexes : List ℕ) (may : List Bool) → Tests marks wanted left own indexes may may
+tests-none marks wanted left own indexes may = record { size = refl; each = λ hands are lists tested. tested }
+
+-- one hand more, which no tiling of its mark serves
+pub tests-bad : (marks : Marks) (mark : Mark) (left : ℕ) (own indexes : List ℕ) (old may : List Bool) (k : ℕ) → k < length own → Contains marks.known.items mark → IsRefused marks left mark (get_or own k 0)
+    → Tests marks mark.counts left own indexes old may → Tests marks mark.counts left own indexes old (list_set may (get_or indexes k 0) false)
+tests-bad marks mark left own indexes old may k low among refused state = record {
+  size = length-set may (get_or indexes k 0) false ∙ state.size;
+  each = λ hands are lists tested.
+      let is = are.each k low in
+      let listed = one-lists marks left (has_number hands) mark (get_or own k 0) among lists (has-there hands (get_or indexes k 0) (get_or own k 0) is.within is.there) in
+      tested-bad marks.game marks.position left hands may (get_or indexes k 0) is.within
+      (ap (is_good marks.game (filled marks.position.well) marks.position.rows left) is.there ∙ refused-bad marks left (get_or own k 0) mark is.counts listed refused)
+      (state.each hands are lists tested);
+}
+
+-- one part more
+pub tests-part : (marks : Marks) (wanted : List ℕ) (left : ℕ) (own indexes : List ℕ) (old may next : List Bool) (start size : ℕ) → start + size ≤ length own
+    → Tests marks wanted left (take size (drop start own)) (take size (drop start indexes)) may next → Tests marks wanted left own indexes old may → Tests marks wanted left own indexes old next
+tests-part marks wanted left own indexes old may next start size within part state = record {
+  size = part.size ∙ state.size;
+  each = λ hands are lists tested. part.each hands (own-part wanted left hands own indexes start size within are) lists (state.each hands are lists tested);
+}
+
 -- the tilings that serve those are used, so are the tilings that serve any of the hands with the pieces of the mark
-pub used-by-own : (marks : Marks) (left : ℕ) (hands own : List ℕ) (counts : List (List ℕ)) (mark : Mark) (used : List Bool) → length used ≡ length mark.tilings.tilings.items → AreCountsOf left hands counts
-    → ((n : ℕ) → n < length hands → get_or counts n [] ≡ mark.counts → has_number own (get_or hands n 0) ≡ true)
+pub used-by-own : (marks : Marks) (left : ℕ) (hands own : List ℕ) (mark : Mark) (used : List Bool) → length used ≡ length mark.tilings.tilings.items → HasOwn mark.counts left hands own
     → ((k : ℕ) → k < length own → IsUsedBy marks left mark.tilings.tilings.items used (get_or own k 0)) → IsUsedByAll marks left hands mark used
-used-by-own marks left hands own counts mark used size are owned is_used = record {
+used-by-own marks left hands own mark used size owned is_used = record {
   size = size;
-  each = λ n within has.
-      let at = number-at own (get_or hands n 0) (owned n within (same-counts left (get_or hands n 0) (get_or counts n []) mark.counts (are.each n within) has)) in
+  each = λ hand there counts.
+      let at = number-at own hand (owned.each hand there counts) in
       subst (IsUsedBy marks left mark.tilings.tilings.items used) at.2 (is_used at.0 at.1);
 }
 
@@ -300,6 +312,31 @@ mark-read known index old within at = slice_get_read known (length known) index 
 
 pub mark-is : (known : List Mark) (index : ℕ) (old mark : Mark) → old ≡ get_or known index old → slice_get known index ≡ Some mark → old ≡ mark
 mark-is known index old mark at there = at ∙ get_or_from_slice_get known index mark old there
+
+-- a mark that takes the place of one with the same counts
+pub keeps-set : (known : List Mark) (index : ℕ) (old new : Mark) → index < length known → old ≡ get_or known index old → new.counts ≡ old.counts
+    → (before after : Mark) → slice_get known index ≡ Some before → slice_get (list_set known index new) index ≡ Some after → after.counts ≡ before.counts
+keeps-set known index old new within at same before after there now =
+    let is : new ≡ after = sym (get_or-set_at known index index new new refl within) ∙ get_or_from_slice_get (list_set known index new) index after new now in
+    ap (λ (m : Mark). m.counts) (sym is) ∙ same ∙ ap (λ (m : Mark). m.counts) (mark-is known index old before at there)
+
+-- ---- a mark that is narrowed before its hands are tested
+
+pub own-read : (wanted : List ℕ) (left : ℕ) (hands own indexes first second : List ℕ) → first ≡ own → second ≡ indexes → AreOwn wanted left hands own indexes → AreOwn wanted left hands first second
+own-read wanted left hands own indexes first second same alike are =
+    subst (λ l. AreOwn wanted left hands l second) (sym same) (subst (AreOwn wanted left hands own) (sym alike) are)
+
+pub narrowed-once : (marks mid : Marks) (left index : ℕ) (hands own slice : List ℕ) (first : Mark) → first ≡ get_or marks.known.items index first → slice ≡ own
+    → HasOwn first.counts left hands own → AreMarksOf marks left (has_number hands)
+    → ((hands : List ℕ) → AreMarksOf marks left (has_number hands) → ((mark : Mark) → slice_get marks.known.items index ≡ Some mark → HasOwn mark.counts left hands slice) → AreNarrowed marks mid left hands)
+    → AreNarrowed marks mid left hands
+narrowed-once marks mid left index hands own slice first at same all lists narrows =
+    narrows hands lists (λ mark there. subst (HasOwn mark.counts left hands) (sym same) (subst (λ (m : Mark). HasOwn m.counts left hands own) (mark-is marks.known.items index first mark at there) all))
+
+pub same-own : (marks mid : Marks) (index : ℕ) (first old : Mark) → index < length marks.known.items → length mid.known.items ≡ length marks.known.items
+    → first ≡ get_or marks.known.items index first → old ≡ get_or mid.known.items index old → KeepsCounts marks mid index → old.counts ≡ first.counts
+same-own marks mid index first old within size before after keeps =
+    keeps.same first old (mark-read marks.known.items index first within before) (mark-read mid.known.items index old (omega (arith, within, size)) after)
 
 -- ---- the tilings that stay
 
@@ -350,22 +387,13 @@ kept-lists marks left hand used old new same keeps is_used lists = record {
 
 pub narrowed : (marks : Marks) (left : ℕ) (hands : List ℕ) (index : ℕ) (used : List Bool) (old new : Mark) → index < length marks.known.items → old ≡ get_or marks.known.items index old → new.counts ≡ old.counts
     → ((j : ℕ) (tiling : ListedTiling) → slice_get old.tilings.tilings.items j ≡ Some tiling → get_or used j false ≡ true → Contains new.tilings.tilings.items tiling)
-    → ((n : ℕ) → n < length hands → HasCounts old.counts left (get_or hands n 0) → IsUsedBy marks left old.tilings.tilings.items used (get_or hands n 0))
+    → ((hand : ℕ) → has_number hands hand ≡ true → HasCounts old.counts left hand → IsUsedBy marks left old.tilings.tilings.items used hand)
     → AreMarksOf marks left (has_number hands)
     → (hand : ℕ) → has_number hands hand ≡ true → All (ListsHand (empty_cells marks.cells) marks.drops marks.game.hold left hand) (list_set marks.known.items index new)
 narrowed marks left hands index used old new within at same keeps is_used all hand there =
     let Holds : Mark → Type 0 = ListsHand (empty_cells marks.cells) marks.drops marks.game.hold left hand in
-    let found = number-at hands hand there in
-    let uses = subst (λ hand. HasCounts old.counts left hand → IsUsedBy marks left old.tilings.tilings.items used hand) found.2 (is_used found.0 found.1) in
-    All-set Holds marks.known.items index new (kept-lists marks left hand used old new same keeps uses (subst Holds (sym at) (all.each hand there index old within))) (all.each hand there)
+    All-set Holds marks.known.items index new (kept-lists marks left hand used old new same keeps (is_used hand there) (subst Holds (sym at) (all.each hand there index old within))) (all.each hand there)
 
 -- the marks are those of some of the hands
 pub fewer-lists : (marks : Marks) (left : ℕ) (few many : ℕ → Bool) → ((hand : ℕ) → few hand ≡ true → many hand ≡ true) → AreMarksOf marks left many → AreMarksOf marks left few
 fewer-lists marks left few many fewer all = record { each = λ hand there. all.each hand (fewer hand there) }
-
--- so one of them is
-pub one-lists : (marks : Marks) (left : ℕ) (hands : List ℕ) (mark : Mark) (n : ℕ) → Contains marks.known.items mark → AreMarksOf marks left (has_number hands) → n < length hands
-    → ListsHand (empty_cells marks.cells) marks.drops marks.game.hold left (get_or hands n 0) mark
-one-lists marks left hands mark n among all within =
-    subst (ListsHand (empty_cells marks.cells) marks.drops marks.game.hold left (get_or hands n 0)) among.2
-    (all.each (get_or hands n 0) (has-there hands n (get_or hands n 0) within refl) among.0 mark among.1)

@@ -1,12 +1,11 @@
 -- Hands that no listed tiling of their mark serves, and tilings that serve no hand.
-use Rattle.std.specs.Prelude.{◌≡◌, ◌⊎◌, ℕ, ◌<◌, Bool, true, false, All, List, Some, [], length, slice_get, slice_index, slice_index_or}
+use Rattle.std.specs.Prelude.{◌≡◌, ℕ, ◌<◌, Bool, true, false, All, List, Some, [], length, slice_get, slice_index, slice_index_or}
 use Rattle.std.specs.List.{Contains}
 use Rattle.well.specs.Well.{filled}
 use Rattle.empty_cells.specs.Empties.{empty_cells}
 use Rattle.tiled_pieces.specs.declared.listed.ListedTiling.{ListedTiling}
 use Rattle.tiled_pieces.specs.Served.{IsServed}
 use Rattle.tiled_pieces.specs.TilingLists.{HasPiece, laid_part}
-use Rattle.percent.specs.declared.building.Block.{Block}
 use Rattle.percent.specs.declared.game.Game.{Game}
 use Rattle.percent.specs.declared.marks.Mark.{Mark}
 use Rattle.percent.specs.declared.marks.Marks.{Marks}
@@ -36,8 +35,8 @@ pub record IsUsedBy (marks : Marks) (left : ℕ) (list : List ListedTiling) (use
 -- of the tilings of a mark those are used that serve one of some hands with its pieces
 pub record IsUsedByAll (marks : Marks) (left : ℕ) (hands : List ℕ) (mark : Mark) (used : List Bool) : Type 0 where
   pub size : length used ≡ length mark.tilings.tilings.items
-  pub each : (n : ℕ) → n < length hands → HasCounts mark.counts left (slice_index hands n)
-      → IsUsedBy marks left mark.tilings.tilings.items used (slice_index hands n)
+  pub each : (hand : ℕ) → has_number hands hand ≡ true → HasCounts mark.counts left hand
+      → IsUsedBy marks left mark.tilings.tilings.items used hand
 
 -- what is used stays so
 pub record StaysUsed (old new : List Bool) : Type 0 where
@@ -49,35 +48,37 @@ pub record AreCountsOf (left : ℕ) (hands : List ℕ) (counts : List (List ℕ)
   pub size : length counts ≡ length hands
   pub each : (k : ℕ) → k < length hands → HasCounts (slice_index_or counts k []) left (slice_index hands k)
 
--- one of the hands, with the pieces of a mark
-pub record IsHandOf (mark : Mark) (left : ℕ) (hands : List ℕ) (index : ℕ) : Type 0 where
+-- a hand with these counts, and its index among all
+pub record IsOwn (wanted : List ℕ) (left : ℕ) (hands : List ℕ) (hand index : ℕ) : Type 0 where
   pub within : index < length hands
-  pub counts : HasCounts mark.counts left (slice_index hands index)
+  pub there : slice_index hands index ≡ hand
+  pub counts : HasCounts wanted left hand
 
--- a block is of such hands
-pub record IsBlock (mark : Mark) (left : ℕ) (hands : List ℕ) (block : Block) : Type 0 where
-  pub each : (k : ℕ) → k < block.len → IsHandOf mark left hands (slice_index block.indexes k)
+-- so is each of these, at its place
+pub record AreOwn (wanted : List ℕ) (left : ℕ) (hands own indexes : List ℕ) : Type 0 where
+  pub size : length indexes ≡ length own
+  pub each : (k : ℕ) → k < length own → IsOwn wanted left hands (slice_index own k) (slice_index indexes k)
 
--- a block has the index of a hand
-pub record IsIn (block : Block) (index : ℕ) : Type 0 where
-  pub k : ℕ
-  pub low : k < block.len
-  pub here : slice_index block.indexes k ≡ index
-
--- A block is of some of the hands with the pieces of a mark. Of the others before an index, the tilings that serve them
--- are used.
-pub record AreGathered (marks : Marks) (mark : Mark) (left : ℕ) (hands : List ℕ) (block : Block) (used : List Bool)
-    (index : ℕ) : Type 0 where
-  pub size : length used ≡ length mark.tilings.tilings.items
-  pub those : IsBlock mark left hands block
-  pub each : (n : ℕ) → n < index → HasCounts mark.counts left (slice_index hands n)
-      → IsIn block n ⊎ IsUsedBy marks left mark.tilings.tilings.items used (slice_index hands n)
+-- and all hands with these counts are there
+pub record HasOwn (wanted : List ℕ) (left : ℕ) (hands own : List ℕ) : Type 0 where
+  pub each : (hand : ℕ) → has_number hands hand ≡ true → HasCounts wanted left hand → has_number own hand ≡ true
 
 -- hands that are not among those that may be good are bad
 pub record AreTested (game : Game) (p : Position) (left : ℕ) (hands : List ℕ) (may : List Bool) : Type 0 where
   pub size : length may ≡ length hands
   pub each : (k : ℕ) → k < length hands → slice_index_or may k true ≡ false
       → is_good game (filled p.well) p.rows left (slice_index hands k) ≡ false
+
+-- what was tested of all hands stays so if some of them are tested, which have these counts and indexes
+pub record Tests (marks : Marks) (wanted : List ℕ) (left : ℕ) (own indexes : List ℕ) (old new : List Bool) : Type 0 where
+  pub size : length new ≡ length old
+  pub each : (hands : List ℕ) → AreOwn wanted left hands own indexes → AreMarksOf marks left (has_number hands)
+      → AreTested marks.game marks.position left hands old → AreTested marks.game marks.position left hands new
+
+-- the mark at an index has the counts that it had
+pub record KeepsCounts (old new : Marks) (index : ℕ) : Type 0 where
+  pub same : (before after : Mark) → slice_get old.known.items index ≡ Some before
+      → slice_get new.known.items index ≡ Some after → after.counts ≡ before.counts
 
 -- marks with fewer tilings, which still list those by which the hands are built
 pub record AreNarrowed (old new : Marks) (left : ℕ) (hands : List ℕ) : Type 0 where

@@ -5,58 +5,11 @@ ghost use Rattle.lane_board.specs.Lanes.{has_bit};
 ghost use Rattle.empty_cells.specs.Empties.{empty_cells};
 ghost use Rattle.tiled_pieces.specs.Served.{IsServed};
 
-use crate::fitting::{Counts, are_same};
 use crate::marks::{Mark, Marks};
 use empty_cells::Empties;
 use hands::{Sums, sums_of, weights_of};
 use lane_board::words::{bits_without, has_bit};
 use tiled_pieces::{ListedTiling, served_hands};
-
-/// Indexes of up to 64 hands with the same mark.
-#[derive(Clone, Copy)]
-struct Block {
-    indexes: [usize; 64],
-    len: usize,
-    ghost few: { len ≤ 64 },
-    ghost size: { length indexes ≡ 64 },
-}
-
-impl Block {
-    ghost use Rattle.std.specs.Prelude.{◌+◌, slice_index, slice_set};
-
-    /// No hand.
-    fn empty() -> Block
-        ensures { result.len ≡ 0 }
-    {
-        Block {
-            indexes: [0; 64],
-            len: 0,
-        }
-    }
-
-    /// One hand more.
-    fn push(&mut self, index: usize)
-        requires { self.old.len < 64 }
-        ensures len { self.new.len ≡ self.old.len + 1 }
-        ensures indexes { self.new.indexes ≡ slice_set self.old.indexes self.old.len index }
-    {
-        self.indexes[self.len] = index;
-        self.len += 1;
-    }
-
-    /// The hands themselves.
-    fn hands_among(&self, hands: &[u64]) -> [u64; 64]
-        requires { (k : ℕ) → k < self.now.len → slice_index self.now.indexes k < length hands.now }
-        ensures { (k : ℕ) → k < self.now.len →
-            slice_index result k ≡ slice_index hands.now (slice_index self.now.indexes k) }
-    {
-        let mut gathered = [0; 64];
-        for k in 0..self.len {
-            gathered[k] = hands[self.indexes[k]];
-        }
-        gathered
-    }
-}
 
 /// The lowest `count` bits.
 fn lowest(count: usize) -> u64 {
@@ -108,11 +61,7 @@ fn served_among(
 
 impl Marks {
     ghost use Rattle.std.specs.Prelude.{◌+◌, Contains, slice_index};
-    ghost use Rattle.hands.specs.Numbers.{has_number};
-    ghost use Rattle.percent.specs.Building.{AreCountsOf, AreGathered, AreTested, IsBlock, IsHandOf, IsRefused};
-    ghost use Rattle.percent.specs.Building.{IsUsedBy, StaysUsed};
-    ghost use Rattle.percent.specs.ListedHands.{AreMarksOf};
-    ghost use Rattle.percent.specs.Marks.{HasCounts};
+    ghost use Rattle.percent.specs.Building.{IsRefused, IsUsedBy, StaysUsed, Tests};
 
     /// Those of up to 64 hands that no tiling of a mark serves, one bit each. Notes which tilings serve some of them. A
     /// hand of which some sum of weights is not in the table is not among them, and any tiling may serve it.
@@ -167,90 +116,68 @@ impl Marks {
         }
     }
 
-    /// Notes that hands of a block are bad which no tiling of their mark serves, and which tilings serve some of them.
+    /// Notes that those of up to 64 hands of a mark are bad which none of its tilings serves, and which tilings serve some
+    /// of them.
     fn note(
         &self,
         mark: &Mark,
         left: u8,
-        hands: &[u64],
-        block: &Block,
+        own: &[u64],
+        indexes: &[usize],
         may: &mut Vec<bool>,
         used: &mut Vec<bool>,
     )
         requires left { left ≤ 20 }
         requires among { Contains self.now.known.items mark.now }
-        requires lists { AreMarksOf self.now left (has_number hands.now) }
-        requires block { IsBlock mark.now left hands.now block.now }
-        requires size { length used.old.items ≡ length mark.now.tilings.tilings.items }
-        requires tested { AreTested self.now.game self.now.position left hands.now may.old.items }
-        ensures tested { AreTested self.now.game self.now.position left hands.now may.new.items }
+        requires few { length own.now ≤ 64 }
+        requires size { length indexes.now ≡ length own.now }
+        requires within { (k : ℕ) → k < length own.now → slice_index indexes.now k < length may.old.items }
+        requires used { length used.old.items ≡ length mark.now.tilings.tilings.items }
+        ensures tested { Tests self.now mark.now.counts left own.now indexes.now may.old.items may.new.items }
         ensures stays { StaysUsed used.old.items used.new.items }
-        ensures used { (k : ℕ) → k < block.now.len → IsUsedBy self.now left mark.now.tilings.tilings.items
-            used.new.items (slice_index hands.now (slice_index block.now.indexes k)) }
+        ensures used { (k : ℕ) → k < length own.now
+            → IsUsedBy self.now left mark.now.tilings.tilings.items used.new.items (slice_index own.now k) }
     {
-        let gathered = block.hands_among(hands);
-        let unserved = self.unserved(mark, left, &gathered[..block.len], used);
-        for k in 0..block.len {
+        let unserved = self.unserved(mark, left, own, used);
+        for k in 0..own.len() {
             if has_bit(unserved, k as u16) {
-                may[block.indexes[k]] = false;
+                may[indexes[k]] = false;
             }
         }
     }
 
-    /// Puts a hand into the block of its mark. A full block is tested before, and emptied.
-    fn gather(
-        &self,
-        mark: &Mark,
-        left: u8,
-        hands: &[u64],
-        index: usize,
-        block: &mut Block,
-        may: &mut Vec<bool>,
-        used: &mut Vec<bool>,
-    )
-        requires left { left ≤ 20 }
-        requires among { Contains self.now.known.items mark.now }
-        requires lists { AreMarksOf self.now left (has_number hands.now) }
-        requires hand { IsHandOf mark.now left hands.now index }
-        requires gathered { AreGathered self.now mark.now left hands.now block.old used.old.items index }
-        requires tested { AreTested self.now.game self.now.position left hands.now may.old.items }
-        ensures gathered { AreGathered self.now mark.now left hands.now block.new used.new.items (index + 1) }
-        ensures tested { AreTested self.now.game self.now.position left hands.now may.new.items }
-    {
-        if block.len == 64 {
-            self.note(mark, left, hands, block, may, used);
-            *block = Block::empty();
-        }
-        block.push(index);
-    }
-
-    /// Notes which hands with the pieces of a mark are bad, and which of its tilings serve some of them.
+    /// Notes which of the hands of a mark are bad, and which of its tilings serve some of them.
     pub fn test_mark(
         &self,
         mark: &Mark,
         left: u8,
-        hands: &[u64],
-        counts: &[Counts],
+        own: &[u64],
+        indexes: &[usize],
         may: &mut Vec<bool>,
         used: &mut Vec<bool>,
     )
         requires left { left ≤ 20 }
         requires among { Contains self.now.known.items mark.now }
-        requires lists { AreMarksOf self.now left (has_number hands.now) }
-        requires counts { AreCountsOf left hands.now counts.now }
-        requires size { length used.old.items ≡ length mark.now.tilings.tilings.items }
-        requires tested { AreTested self.now.game self.now.position left hands.now may.old.items }
-        ensures tested { AreTested self.now.game self.now.position left hands.now may.new.items }
+        requires size { length indexes.now ≡ length own.now }
+        requires within { (k : ℕ) → k < length own.now → slice_index indexes.now k < length may.old.items }
+        requires used { length used.old.items ≡ length mark.now.tilings.tilings.items }
+        ensures tested { Tests self.now mark.now.counts left own.now indexes.now may.old.items may.new.items }
         ensures size { length used.new.items ≡ length mark.now.tilings.tilings.items }
-        ensures used { (n : ℕ) → n < length hands.now → HasCounts mark.now.counts left (slice_index hands.now n)
-            → IsUsedBy self.now left mark.now.tilings.tilings.items used.new.items (slice_index hands.now n) }
+        ensures used { (k : ℕ) → k < length own.now
+            → IsUsedBy self.now left mark.now.tilings.tilings.items used.new.items (slice_index own.now k) }
     {
-        let mut block = Block::empty();
-        for at in 0..hands.len() {
-            if are_same(&counts[at], &mark.counts) {
-                self.gather(mark, left, hands, at, &mut block, may, used);
-            }
+        let mut start = 0;
+        while start < own.len() {
+            let end = own.len().min(start.saturating_add(64));
+            self.note(
+                mark,
+                left,
+                &own[start..end],
+                &indexes[start..end],
+                may,
+                used,
+            );
+            start = end;
         }
-        self.note(mark, left, hands, &block, may, used);
     }
 }

@@ -3,7 +3,7 @@ ghost use Rattle.std.specs.Prelude.{◌≡◌, ◌≤◌, ◌<◌, ℕ, [], IfOk
 ghost use Rattle.std.specs.List.{Contains};
 ghost use Rattle.hands.specs.Numbers.{has_number};
 ghost use Rattle.tiled_pieces.specs.declared.listed.ListedTiling.{ListedTiling};
-ghost use Rattle.percent.specs.Building.{AreCountsOf};
+ghost use Rattle.percent.specs.Building.{AreCountsOf, AreOwn, HasOwn};
 
 use crate::fitting::{Counts, are_same, counts_of};
 use crate::marks::Marks;
@@ -25,24 +25,28 @@ fn counts_of_each(alloc: Global, left: u8, hands: &[u64]) -> Result<Vec<Counts>,
     Ok(counts)
 }
 
-/// The hands that have these counts.
-fn hands_with(
+/// The hands that have these counts, and their indexes.
+fn own_hands(
     alloc: Global,
     hands: &[u64],
     counts: &[Counts],
     wanted: &Counts,
-) -> Result<Vec<u64>, NoMemory>
+) -> Result<(Vec<u64>, Vec<usize>), NoMemory>
     requires { length counts.now ≡ length hands.now }
-    ensures { IfOk result (λ own. (n : ℕ) → n < length hands.now
-        → slice_index_or counts.now n [] ≡ wanted.now → has_number own.items (slice_index hands.now n) ≡ true) }
+    ensures own { IfOk result (λ own. (left : ℕ) → AreCountsOf left hands.now counts.now
+        → AreOwn wanted.now left hands.now own.0.items own.1.items) }
+    ensures all { IfOk result (λ own. (left : ℕ) → AreCountsOf left hands.now counts.now
+        → HasOwn wanted.now left hands.now own.0.items) }
 {
     let mut own = Vec::new(alloc);
+    let mut indexes = Vec::new(alloc);
     for index in 0..hands.len() {
         if are_same(&counts[index], wanted) {
             own.push(hands[index])?;
+            indexes.push(index)?;
         }
     }
-    Ok(own)
+    Ok((own, indexes))
 }
 
 /// The tilings of a list that are used, with room for so many.
@@ -70,7 +74,7 @@ impl Marks {
     ghost use Rattle.well.specs.Well.{filled};
     ghost use Rattle.hands.specs.HandSets.{has};
     ghost use Rattle.percent.specs.declared.marks.Mark.{Mark};
-    ghost use Rattle.percent.specs.Building.{AreNarrowed, AreTested, IsUsedByAll};
+    ghost use Rattle.percent.specs.Building.{AreNarrowed, AreTested, IsUsedByAll, KeepsCounts};
     ghost use Rattle.percent.specs.GoodHands.{LeavesOutBad, is_good};
     ghost use Rattle.percent.specs.ListedHands.{AreMarksOf};
 
@@ -80,10 +84,11 @@ impl Marks {
         requires index { index < vec_len self.old.known }
         requires size { (mark : Mark) → slice_get self.old.known.items index ≡ Some mark
             → length used.now ≡ length mark.tilings.tilings.items }
-        ensures { (left : ℕ) (hands : List ℕ) → AreMarksOf self.old left (has_number hands)
+        ensures narrowed { (left : ℕ) (hands : List ℕ) → AreMarksOf self.old left (has_number hands)
             → ((mark : Mark) → slice_get self.old.known.items index ≡ Some mark
             → IsUsedByAll self.old left hands mark used.now)
             → AreNarrowed self.old self.new left hands }
+        ensures counts { KeepsCounts self.old self.new index }
     {
         let mark = &self.known[index];
         let count = used.iter().filter(|is_used| **is_used).count();
@@ -103,32 +108,29 @@ impl Marks {
         alloc: Global,
         index: usize,
         left: u8,
-        hands: &[u64],
-        counts: &[Counts],
+        own: &[u64],
     ) -> Result<(), NoMemory>
         requires left { left ≤ 20 }
         requires index { index < vec_len self.old.known }
-        requires lists { AreMarksOf self.old left (has_number hands.now) }
-        requires counts { AreCountsOf left hands.now counts.now }
-        ensures { OnOk result (AreNarrowed self.old self.new left hands.now) }
+        ensures narrowed { OnOk result ((hands : List ℕ) → AreMarksOf self.old left (has_number hands)
+            → ((mark : Mark) → slice_get self.old.known.items index ≡ Some mark
+            → HasOwn mark.counts left hands own.now)
+            → AreNarrowed self.old self.new left hands) }
+        ensures counts { OnOk result (KeepsCounts self.old self.new index) }
     {
-        if self.drops {
+        if self.drops || own.len() <= 64 {
             return Ok(());
         }
         let mark = &self.known[index];
-        let own = hands_with(alloc, hands, counts, &mark.counts)?;
-        if own.len() <= 64 {
-            return Ok(());
-        }
         let mut used = vec![in alloc; false; mark.tilings.tilings.len()]?;
-        self.note_used(mark, left, own.as_slice(), &mut used);
+        self.note_used(mark, left, own, &mut used);
         self.keep_used(alloc, index, used.as_slice());
         Ok(())
     }
 
     /// Notes which hands with the pieces of one mark are bad, and leaves out its tilings that serve none of them. With
     /// hard drops by the Super Rotation System, where that costs more than it spares, all stay. `NoMemory` if there is
-    /// not enough for a flag for each tiling.
+    /// not enough for its hands, or for a flag for each tiling.
     fn narrow_mark(
         &mut self,
         alloc: Global,
@@ -146,9 +148,18 @@ impl Marks {
         ensures narrowed { OnOk result (AreNarrowed self.old self.new left hands.now) }
         ensures tested { OnOk result (AreTested self.old.game self.old.position left hands.now may.new.items) }
     {
+        let (own, indexes) = own_hands(alloc, hands, counts, &self.known[index].counts)?;
+        self.narrow_at_once(alloc, index, left, own.as_slice())?;
         let mark = &self.known[index];
         let mut used = vec![in alloc; self.drops; mark.tilings.tilings.len()]?;
-        self.test_mark(mark, left, hands, counts, may, &mut used);
+        self.test_mark(
+            mark,
+            left,
+            own.as_slice(),
+            indexes.as_slice(),
+            may,
+            &mut used,
+        );
         self.keep_used(alloc, index, used.as_slice());
         Ok(())
     }
@@ -164,7 +175,6 @@ impl Marks {
         let counts = counts_of_each(alloc, left, hands)?;
         let mut may = vec![in alloc; true; hands.len()]?;
         for index in 0..self.known.len() {
-            self.narrow_at_once(alloc, index, left, hands, counts.as_slice())?;
             self.narrow_mark(alloc, index, left, hands, counts.as_slice(), &mut may)?;
         }
         Ok(may)

@@ -1,5 +1,5 @@
 -- Each answer is made of lists whose contracts say what they have.
-use Rattle.std.proofs.Common.{◌≡◌, ◌<◌, ℕ, ◌+◌, ◌-◌, ◌&&◌, ◌||◌, All, Bool, not, List, length, get_or, rules, true, ap, subst, ◌∙◌, sym, arith}
+use Rattle.std.proofs.Common.{◌≡◌, ◌<◌, ℕ, ◌-◌, ◌&&◌, ◌||◌, All, Bool, not, List, length, get_or, rules, true, ap, subst, ◌∙◌, sym, arith}
 use Rattle.std.specs.Prelude.{IsPermutation, Option, Some, IfSome}
 use Rattle.srs.specs.declared.piece.Piece.{Piece}
 use Rattle.srs.specs.declared.piece.Piece.TheVariants.{I}

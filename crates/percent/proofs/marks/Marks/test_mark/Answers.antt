@@ -1,29 +1,62 @@
--- One hand more, if it has the pieces of the mark.
-use Rattle.std.proofs.Common.{[], get_or, sym, ◌∙◌, arith}
-use Rattle.std.proofs.lemmas.Bool.{false≢true}
-use Rattle.percent.proofs.BuildingLemmas.{gathered-ends, gathered-pass, same-counts}
+-- One part of the hands more.
+use Rattle.std.proofs.Common.{◌≡◌, ◌≤◌, ◌<◌, ◌+◌, ◌-◌, ◌∙◌, ℕ, get_or, length, ap, subst, inl, inr, arith}
+use Rattle.std.proofs.lemmas.Bool.{cases_lt}
+use Rattle.percent.specs.Building.{IsUsedBy}
+use Rattle.percent.proofs.BuildingLemmas.{part-at, part-length, tests-none, tests-part, used-stays}
 use Rattle.percent.proofs.marks.Marks.test_mark.Goals as goal
-use Rattle.percent.proofs.marks.Marks.test_mark.Goals.{then-are_same, else-are_same}
 
-pub loop-at-preserved : goal.loop-at-preserved
-loop-at-preserved c =
+pub loop-start-init : goal.loop-start-init
+loop-start-init c = record {
+  size = c.requires.used;
+  used = λ k low. absurd (omega arith);
+  tested = tests-none c.args.self.now c.args.mark.now.counts c.args.left c.args.own.now c.args.indexes.now c.args.may.now.items;
+}
+
+pub note-requires-clause-within : goal.note-requires-clause-within
+note-requires-clause-within c = λ k below.
+    let start = c.loop-start.start in
+    let size : ℕ = c.min-end.result - start in
+    let fits = c.loop-start.auto.start-fits in
+    let within : start + size ≤ length c.args.own.now = omega (arith, c.min-end.ensures, c.saturating_add.ensures, c.loop-start-test.true, fits) in
+    let long = part-length c.args.own.now start size within in
+    let low : k < size = omega (arith, long, below) in
+    let at = part-at c.args.indexes.now start size k low in
+    let bound = c.requires.within (start + k) (omega (arith, within, low)) in
+    let same = c.loop-start.invariant.tested.size in
+    omega (arith, at, bound, same)
+
+pub note-requires-clause-used : goal.note-requires-clause-used
+note-requires-clause-used c = c.loop-start.invariant.size
+
+pub loop-start-preserved : goal.loop-start-preserved
+loop-start-preserved c =
     let marks = c.args.self.now in
     let mark = c.args.mark.now in
-    let hands = c.args.hands.now in
-    let at = c.loop-at.at in
-    elim c.if-are_same.branch [
-      | then-are_same w ↦ rw w.block-is (rw w.used-is (rw w.may-is (record { gathered = w.gather.ensures.gathered; tested = w.gather.ensures.tested })))
-      | else-are_same w ↦
-          rw w.block-is (rw w.used-is (rw w.may-is (record {
-            gathered = gathered-pass marks mark c.args.left hands c.loop-at.block c.loop-at.used.items at
-                (λ has. false≢true (sym w.if-are_same.false
-                ∙ c.are_same.ensures.1 (same-counts c.args.left (get_or hands at 0) (get_or c.args.counts.now at []) mark.counts (c.requires.counts.each at c.loop-at-test.true) has)))
-                c.loop-at.invariant.gathered;
-            tested = c.loop-at.invariant.tested;
-          })))
-    ]
+    let own = c.args.own.now in
+    let list = mark.tilings.tilings.items in
+    let start = c.loop-start.start in
+    let size : ℕ = c.min-end.result - start in
+    let fits = c.loop-start.auto.start-fits in
+    let within : start + size ≤ length own = omega (arith, c.min-end.ensures, c.saturating_add.ensures, c.loop-start-test.true, fits) in
+    record {
+      size = c.note.ensures.stays.size ∙ c.loop-start.invariant.size;
+      used = λ k low. elim (cases_lt k start) [
+        | inl before ↦ used-stays marks c.args.left (get_or own k 0) list c.loop-start.used.items c.note.new.used.items c.note.ensures.stays (c.loop-start.invariant.used k before)
+        | inr past ↦
+            let few : k - start < size = omega (arith, low, past) in
+            let here : start + (k - start) ≡ k = omega (arith, past) in
+            let long = part-length own start size within in
+            subst (IsUsedBy marks c.args.left list c.note.new.used.items) (part-at own start size (k - start) few ∙ ap (λ n. get_or own n 0) here)
+            (c.note.ensures.used (k - start) (omega (arith, long, few)))
+      ];
+      tested = tests-part marks mark.counts c.args.left own c.args.indexes.now c.args.may.now.items c.loop-start.may.items c.note.new.may.items start size within c.note.ensures.tested c.loop-start.invariant.tested;
+    }
+
+pub returns-clause-tested : goal.returns-clause-tested
+returns-clause-tested c = c.loop-start.invariant.tested
+
+pub returns-clause-size : goal.returns-clause-size
+returns-clause-size c = c.loop-start.invariant.size
 
 pub returns-clause-used : goal.returns-clause-used
-returns-clause-used c = λ n within counts.
-    gathered-ends c.args.self.now c.args.mark.now c.args.left c.args.hands.now c.loop-at.block c.loop-at.used.items c.note.new.used.items c.loop-at.at n (omega (arith, c.loop-at-test.false))
-    c.note.ensures.stays c.note.ensures.used c.loop-at.invariant.gathered within counts
+returns-clause-used c = λ k within. c.loop-start.invariant.used k (omega (arith, within, c.loop-start-test.false))
