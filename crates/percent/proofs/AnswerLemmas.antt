@@ -19,34 +19,35 @@ use Rattle.hands.proofs.CallerLemmas.{has-push}
 use Rattle.problem.specs.declared.problem.Problem.{Problem}
 use Rattle.problem.specs.Problem.{IsFit, empties_of, needed_of}
 use Rattle.hands.specs.Hands.{hand_of}
-use Rattle.percent.specs.GoodHands.{AreAnswers, AreHandsOf, game_of, hand_at, HasGoodHands, HasHandsBefore, HasHandsBetween, is_good, is_good_queue}
+use Rattle.percent.specs.GoodHands.{game_of, is_good, is_good_queue}
+use Rattle.percent.specs.QueueAnswers.{AreAnswers, AreHandsOf, numbered_hand, HasGoodHands, HasHandsBefore, HasHandsBetween}
 use Rattle.percent.proofs.GoodLemmas.{good-decides, uneven-none}
 
 -- the hand of a problem's queue
 pub hand-own : (problem : Problem) (hands : QueueHands) (number : ℕ) → AreHandsOf problem hands
-    → queue_hand hands.hold hands.held hands.placements (elements_of hands.pattern) number ≡ hand_at problem number
-unfolding hand_at
+    → queue_hand hands.hold hands.held hands.placements (elements_of hands.pattern) number ≡ numbered_hand problem number
+unfolding numbered_hand
 hand-own problem hands number own = λ i. queue_hand (own.hold i) (own.held i) (own.placements i) (elements_of (own.pattern i)) number
 
 pub hands-none : (problem : Problem) (has_hand : ℕ → Bool) (first : ℕ) → HasHandsBetween problem has_hand first first
 hands-none problem has_hand first = record { each = λ k from below. absurd (omega arith) }
 
-pub hands-more : (problem : Problem) (hands : List ℕ) (first number hand : ℕ) → hand ≡ hand_at problem number → HasHandsBetween problem (has_number hands) first number
+pub hands-more : (problem : Problem) (hands : List ℕ) (first number hand : ℕ) → hand ≡ numbered_hand problem number → HasHandsBetween problem (has_number hands) first number
     → HasHandsBetween problem (has_number (hands ++ hand ∷ [])) first (number + 1)
 hands-more problem hands first number hand is state = search (rules, has-push, cases_lt, or_left, nat_tests, or_right)
 
 pub hands-same : (problem : Problem) (has_hand has_other : ℕ → Bool) (first end last : ℕ) → end ≤ last → ((hand : ℕ) → has_other hand ≡ has_hand hand)
     → HasHandsBetween problem has_hand first last → HasHandsBetween problem has_other first end
 hands-same problem has_hand has_other first end last up_to same state =
-    record { each = λ k from below. same (hand_at problem k) ∙ state.each k from (omega (arith, up_to, below)) }
+    record { each = λ k from below. same (numbered_hand problem k) ∙ state.each k from (omega (arith, up_to, below)) }
 
 -- those before one number, and those from there on
 pub hands-merged : (problem : Problem) (has_hand has_more has_all : ℕ → Bool) (first end : ℕ) → ((hand : ℕ) → has_all hand ≡ (has_hand hand || has_more hand))
     → HasHandsBefore problem has_hand first → HasHandsBetween problem has_more first end → HasHandsBefore problem has_all end
 hands-merged problem has_hand has_more has_all first end merged before more = record {
-  each = λ k from below. merged (hand_at problem k) ∙ elim (cases_lt k first) [
-    | inl lower ↦ or_left (has_hand (hand_at problem k)) (has_more (hand_at problem k)) (before.each k from lower)
-    | inr higher ↦ or_right (has_hand (hand_at problem k)) (has_more (hand_at problem k)) (more.each k higher below)
+  each = λ k from below. merged (numbered_hand problem k) ∙ elim (cases_lt k first) [
+    | inl lower ↦ or_left (has_hand (numbered_hand problem k)) (has_more (numbered_hand problem k)) (before.each k from lower)
+    | inr higher ↦ or_right (has_hand (numbered_hand problem k)) (has_more (numbered_hand problem k)) (more.each k higher below)
   ];
 }
 
@@ -54,7 +55,7 @@ hands-merged problem has_hand has_more has_all first end merged before more = re
 pub good-hands : (problem : Problem) (hands good : HandSet) → HasHandsBefore problem (has hands) (length (queues (elements_of problem.pattern)))
     → ((hand : ℕ) → has good hand ≡ (has hands hand && is_good (game_of problem) (filled problem.well) problem.height (needed_of problem) hand))
     → HasGoodHands problem good
-unfolding hand_at is_good_queue queue_hand
+unfolding numbered_hand is_good_queue queue_hand
 good-hands problem hands good all good_is = search rules
 
 -- so many of the first queues are good
@@ -91,7 +92,7 @@ judge-starts problem answers nil = record { size = ap length nil; each = λ numb
 
 -- whether one queue more is good, by its hand
 pub judge-more : (problem : Problem) (good : HandSet) (answers : List Bool) (number hand : ℕ) (answer : Bool) → HasGoodHands problem good → number < length (queues (elements_of problem.pattern))
-    → hand ≡ hand_at problem number → answer ≡ has good hand → AreAnswers problem answers number → AreAnswers problem (answers ++ answer ∷ []) (number + 1)
+    → hand ≡ numbered_hand problem number → answer ≡ has good hand → AreAnswers problem answers number → AreAnswers problem (answers ++ answer ∷ []) (number + 1)
 judge-more problem good answers number hand answer exact within hand_is is state =
     let size = state.size in
     let more = length-append answers (answer ∷ []) in record {
@@ -115,7 +116,7 @@ uneven-answer problem hands fit uneven hand = search (rules, and_right, uneven-n
 pub whole-hands : (problem : Problem) (hands good rest : HandSet) (number : ℕ) → ((hand : ℕ) → has rest hand ≡ (has hands hand && not (has good hand)))
     → ((hand : ℕ) → has rest hand ≡ false) → HasHandsBefore problem (has hands) number → HasHandsBefore problem (has good) number
 whole-hands problem hands good rest number rest_is none state = record {
-  each = λ k from within. present (has hands (hand_at problem k)) (has good (hand_at problem k)) (state.each k from within) (sym (rest_is (hand_at problem k)) ∙ none (hand_at problem k));
+  each = λ k from within. present (has hands (numbered_hand problem k)) (has good (numbered_hand problem k)) (state.each k from within) (sym (rest_is (numbered_hand problem k)) ∙ none (numbered_hand problem k));
 }
   where
     present : (a b : Bool) → a ≡ true → (a && not b) ≡ false → b ≡ true

@@ -17,7 +17,8 @@ use Rattle.percent.specs.declared.game.Game.{Game}
 use Rattle.percent.specs.declared.position.Child.{Child}
 use Rattle.hands.specs.Hands.{allows_hold, takes, with_first, with_second, without_first, without_second}
 use Rattle.percent.specs.declared.position.Position.{Position}
-use Rattle.percent.specs.GoodHands.{is_good, is_good_after, is_good_at}
+use Rattle.percent.specs.GoodHands.{is_good, is_good_after}
+use Rattle.percent.specs.Children.{is_good_at}
 use Rattle.percent.specs.Kept.{AreAnswered}
 use Rattle.hands.proofs.CallerLemmas.{first_back, second_back, or_false}
 use Rattle.percent.proofs.GoodLemmas.{good-step}

@@ -33,7 +33,8 @@ use Rattle.hands.specs.declared.hand_set.HandSet.{HandSet}
 use Rattle.hands.specs.HandSets.{has}
 use Rattle.percent.specs.declared.game.Game.{Game}
 use Rattle.percent.specs.declared.position.Child.{Child}
-use Rattle.percent.specs.GoodHands.{reached_places, is_good, is_good_after, is_good_at}
+use Rattle.percent.specs.GoodHands.{reached_places, is_good, is_good_after}
+use Rattle.percent.specs.Children.{is_good_at}
 use Rattle.std.proofs.lemmas.Bool.{or_cases}
 
 -- a place of a piece below a row

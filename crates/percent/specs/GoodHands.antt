@@ -1,5 +1,5 @@
 -- Good hands, piece by piece: whether some way to take a piece and place it leaves a good hand.
-use Rattle.std.specs.Prelude.{◌≡◌, ℕ, zero, suc, ◌-◌, ◌<◌, ◌≤◌, Bool, true, false, ◌&&◌, ◌==◌, List, [], filter, length, slice_index_or}
+use Rattle.std.specs.Prelude.{◌≡◌, ℕ, zero, suc, ◌-◌, Bool, true, ◌&&◌, ◌==◌, List, filter}
 use Rattle.std.specs.List.{list_any}
 use Rattle.lane_board.specs.Field.{Field}
 use Rattle.srs.specs.declared.piece.Piece.{Piece}
@@ -11,16 +11,9 @@ use Rattle.well.specs.Well.{filled}
 use Rattle.well.specs.Lock.{locked, rows_removed}
 use Rattle.well.specs.LockLaws.{is_below}
 use Rattle.moves.specs.PlaceTest.{is_place}
-use Rattle.hands.specs.declared.hand_set.HandSet.{HandSet}
-use Rattle.hands.specs.declared.queue_hands.QueueHands.{QueueHands}
-use Rattle.hands.specs.HandSets.{has}
-use Rattle.hands.specs.QueueHands.{queue_hand}
-use Rattle.queue_pattern.specs.Pattern.{elements_of}
-use Rattle.queue_pattern.specs.Queues.{queues}
 use Rattle.problem.specs.declared.problem.Problem.{Problem}
 use Rattle.problem.specs.Problem.{needed_of}
 use Rattle.percent.specs.declared.game.Game.{Game}
-use Rattle.percent.specs.declared.position.Child.{Child}
 use Rattle.hands.specs.Hands.{hand_of, takes}
 
 -- the placements of a piece that legal keys reach, in order
@@ -41,11 +34,6 @@ is_good_after game F rows piece left rest =
     list_any (λ q. is_below rows q && is_good game (locked F q) (rows - rows_removed F q) left rest)
     (reached_places game F piece)
 
--- good at one of these positions
-unfoldable pub is_good_at : Game → List Child → ℕ → ℕ → Bool
-is_good_at game children left hand =
-    list_any (λ child. is_good game (filled child.position.well) child.position.rows left hand) children
-
 -- some of these hands are there, all that pass a test among them
 pub record LeavesOutBad (test hands fit : ℕ → Bool) : Type 0 where
   pub fewer : (hand : ℕ) → fit hand ≡ true → hands hand ≡ true
@@ -59,35 +47,3 @@ unfoldable pub is_good_queue : Problem → List Piece → Bool
 is_good_queue problem queue =
     is_good (game_of problem) (filled problem.well) problem.height (needed_of problem)
     (hand_of problem.hold problem.held (needed_of problem) queue)
-
--- the hand of the queue with this number
-unfoldable pub hand_at : Problem → ℕ → ℕ
-hand_at problem number =
-    queue_hand problem.hold problem.held (needed_of problem) (elements_of problem.pattern) number
-
--- these are the hands of a problem's queues
-pub record AreHandsOf (problem : Problem) (hands : QueueHands) : Type 0 where
-  pub pattern : hands.pattern ≡ problem.pattern
-  pub hold : hands.hold ≡ problem.hold
-  pub held : hands.held ≡ problem.held
-  pub placements : hands.placements ≡ needed_of problem
-
--- a test passes for the hand of each queue from one number on, before another one
-pub record HasHandsBetween (problem : Problem) (has_hand : ℕ → Bool) (first end : ℕ) : Type 0 where
-  pub each : (k : ℕ) → first ≤ k → k < end → has_hand (hand_at problem k) ≡ true
-
--- a test passes for the hand of each queue before this number
-abbrev pub HasHandsBefore : Problem → (ℕ → Bool) → ℕ → Type 0
-HasHandsBefore problem has_hand number = HasHandsBetween problem has_hand 0 number
-
--- the hands of good queues are those among these
-pub record HasGoodHands (problem : Problem) (hands : HandSet) : Type 0 where
-  pub each : (number : ℕ) → number < length (queues (elements_of problem.pattern))
-      → has hands (hand_at problem number)
-      ≡ is_good_queue problem (slice_index_or (queues (elements_of problem.pattern)) number [])
-
--- whether each of the first so many queues is good
-pub record AreAnswers (problem : Problem) (answers : List Bool) (count : ℕ) : Type 0 where
-  pub size : length answers ≡ count
-  pub each : (number : ℕ) → number < count → slice_index_or answers number false
-      ≡ is_good_queue problem (slice_index_or (queues (elements_of problem.pattern)) number [])

@@ -1,15 +1,16 @@
 -- What a reader must believe
 pub mod Good
-pub mod Answers
 pub mod OpenRows
 pub mod Fitting
 pub mod BuiltHands
 -- What contracts cite beside these: views of values, and readings and tests, each with its law
+pub mod Answers
 pub mod GoodHands
 -- What the invariants of types cite: what their private fields hold and stand for
 pub mod Counts
 pub mod Kept
 pub mod Spread
+pub mod QueueAnswers
 -- What serves proofs alone
 pub mod Children
 pub mod Marks

@@ -4,7 +4,8 @@ ghost use Rattle.queue_pattern.specs.Pattern.{elements_of};
 ghost use Rattle.queue_pattern.specs.Queues.{queues};
 ghost use Rattle.hands.specs.HandSets.{has};
 ghost use Rattle.problem.specs.Problem.{IsFit};
-ghost use Rattle.percent.specs.GoodHands.{AreAnswers, AreHandsOf, HasGoodHands, HasHandsBefore, HasHandsBetween, is_good_queue};
+ghost use Rattle.percent.specs.GoodHands.{is_good_queue};
+ghost use Rattle.percent.specs.QueueAnswers.{AreAnswers, AreHandsOf, HasGoodHands, HasHandsBefore, HasHandsBetween};
 
 use crate::start::good_hands;
 use hands::{HandSet, QueueHands, Starts};

@@ -13,7 +13,8 @@ use Rattle.percent.specs.declared.game.Game.{Game}
 use Rattle.percent.specs.Children.{IsChild}
 use Rattle.percent.specs.ListedHands.{AreRestsAt}
 use Rattle.percent.specs.Marks.{AreIndexes, IsStanding}
-use Rattle.percent.specs.GoodHands.{is_good, is_good_after, is_good_at}
+use Rattle.percent.specs.GoodHands.{is_good, is_good_after}
+use Rattle.percent.specs.Children.{is_good_at}
 use Rattle.std.proofs.lemmas.Result.{IfOk-weaker}
 use Rattle.percent.proofs.GoodSteps.{answer-found, answer-known, answer-looked, answers-at, explore-open, explore-step, found-good, good-ends, none-of, open-bad, try-all, try-ends, try-starts, try-step}
 use Rattle.percent.proofs.RestLemmas.{first-true, rests-at, rests-fewer}

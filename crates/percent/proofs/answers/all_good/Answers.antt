@@ -1,6 +1,6 @@
 -- The hand of each queue is good.
 use Rattle.std.proofs.Common.{true, refl, subst, sym, arith}
-use Rattle.percent.specs.GoodHands.{AreAnswers, hand_at}
+use Rattle.percent.specs.QueueAnswers.{AreAnswers, numbered_hand}
 use Rattle.percent.proofs.AnswerLemmas.{judge-starts, judge-more}
 use Rattle.percent.proofs.answers.all_good.Goals as goal
 
@@ -12,7 +12,7 @@ loop-number-preserved c =
     let problem = c.args.problem.now in
     let number = c.loop-number.number in
     rw c.in_ok-push.ensures.items
-    (judge-more problem c.args.hands.now c.loop-number.answers.items number (hand_at problem number) true c.requires.exact
+    (judge-more problem c.args.hands.now c.loop-number.answers.items number (numbered_hand problem number) true c.requires.exact
     (omega (arith, c.loop-number-test.true, c.count-count.ensures.number)) refl
     (sym (c.requires.each.each number (omega arith) (omega (arith, c.loop-number-test.true, c.count-count.ensures.number)))) c.loop-number.invariant)
 

@@ -1,4 +1,4 @@
-use Rattle.percent.specs.GoodHands.{AreAnswers}
+use Rattle.percent.specs.QueueAnswers.{AreAnswers}
 use Rattle.percent.proofs.answers.all_good.Given as goal
 
 abbrev pub invariant-loop-number : goal.invariant-loop-number

@@ -1,6 +1,6 @@
 use Rattle.hands.specs.Numbers.{has_number}
 use Rattle.problem.specs.declared.problem.Problem.{Problem}
-use Rattle.percent.specs.GoodHands.{AreHandsOf, HasHandsBetween}
+use Rattle.percent.specs.QueueAnswers.{AreHandsOf, HasHandsBetween}
 use Rattle.percent.proofs.answers.hands_between.Given as goal
 
 abbrev pub invariant-loop-number : goal.invariant-loop-number

@@ -1,7 +1,7 @@
 use Rattle.std.specs.Prelude.{◌-◌}
 use Rattle.hands.specs.HandSets.{has}
 use Rattle.problem.specs.declared.problem.Problem.{Problem}
-use Rattle.percent.specs.GoodHands.{AreHandsOf, HasHandsBefore}
+use Rattle.percent.specs.QueueAnswers.{AreHandsOf, HasHandsBefore}
 use Rattle.percent.proofs.answers.hands_of.Given as goal
 
 abbrev pub decreases-loop-first : goal.decreases-loop-first

@@ -1,6 +1,6 @@
 -- Each queue is judged by its hand.
 use Rattle.std.proofs.Common.{◌∙◌, subst, arith}
-use Rattle.percent.specs.GoodHands.{AreAnswers}
+use Rattle.percent.specs.QueueAnswers.{AreAnswers}
 use Rattle.percent.proofs.AnswerLemmas.{hand-own, judge-starts, judge-more, whole-hands}
 use Rattle.percent.proofs.answers.judged.Goals as goal
 
