@@ -26,7 +26,8 @@ use Rattle.percent.specs.declared.game.Game.{Game}
 use Rattle.percent.specs.declared.position.Position.{Position}
 use Rattle.percent.specs.Counts.{supply_by}
 use Rattle.percent.specs.Fitting.{codes_in, supply_at}
-use Rattle.percent.specs.GoodHands.{LeavesOutBad, is_good}
+use Rattle.percent.specs.GoodHands.{is_good}
+use Rattle.percent.specs.LeftOut.{LeavesOutBad}
 use Rattle.percent.proofs.TiledLemmas.{codes-few, good-tiled}
 
 pub low-position : (p : Position) → IsLow (filled p.well) p.rows

@@ -1,5 +1,5 @@
 -- Good hands, piece by piece: whether some way to take a piece and place it leaves a good hand.
-use Rattle.std.specs.Prelude.{◌≡◌, ℕ, zero, suc, ◌-◌, Bool, true, ◌&&◌, ◌==◌, List, filter}
+use Rattle.std.specs.Prelude.{ℕ, zero, suc, ◌-◌, Bool, ◌&&◌, ◌==◌, List, filter}
 use Rattle.std.specs.List.{list_any}
 use Rattle.lane_board.specs.Field.{Field}
 use Rattle.srs.specs.declared.piece.Piece.{Piece}
@@ -33,11 +33,6 @@ unfoldable pub is_good_after : Game → Field → ℕ → Piece → ℕ → ℕ 
 is_good_after game F rows piece left rest =
     list_any (λ q. is_below rows q && is_good game (locked F q) (rows - rows_removed F q) left rest)
     (reached_places game F piece)
-
--- some of these hands are there, all that pass a test among them
-pub record LeavesOutBad (test hands fit : ℕ → Bool) : Type 0 where
-  pub fewer : (hand : ℕ) → fit hand ≡ true → hands hand ≡ true
-  pub same : (hand : ℕ) → (fit hand && test hand) ≡ (hands hand && test hand)
 
 abbrev pub game_of : Problem → Game
 game_of problem = record { rules = problem.rules; drop_mode = problem.drop_mode; hold = problem.hold }

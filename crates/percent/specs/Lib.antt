@@ -12,6 +12,7 @@ pub mod Kept
 pub mod Spread
 pub mod QueueAnswers
 -- What serves proofs alone
+pub mod LeftOut
 pub mod Children
 pub mod Marks
 pub mod ListedHands

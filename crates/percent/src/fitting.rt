@@ -8,7 +8,8 @@ ghost use Rattle.hands.specs.Numbers.{has_number};
 ghost use Rattle.percent.specs.declared.game.Game.{Game};
 ghost use Rattle.percent.specs.Counts.{supply_by};
 ghost use Rattle.percent.specs.Fitting.{codes_in};
-ghost use Rattle.percent.specs.GoodHands.{LeavesOutBad, is_good};
+ghost use Rattle.percent.specs.GoodHands.{is_good};
+ghost use Rattle.percent.specs.LeftOut.{LeavesOutBad};
 
 use crate::position::{Position, hash_of};
 use empty_cells::Empties;

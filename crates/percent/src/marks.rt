@@ -14,7 +14,8 @@ ghost use Rattle.hands.specs.Numbers.{has_number};
 ghost use Rattle.percent.specs.BuiltHands.{IsHardSrs};
 ghost use Rattle.percent.specs.Children.{IsChild};
 ghost use Rattle.percent.specs.Counts.{codes_with};
-ghost use Rattle.percent.specs.GoodHands.{LeavesOutBad, is_good};
+ghost use Rattle.percent.specs.GoodHands.{is_good};
+ghost use Rattle.percent.specs.LeftOut.{LeavesOutBad};
 ghost use Rattle.percent.specs.Marks.{AreIndexes, HasMarkAt, IsMarkOf, IsStanding, IsTrueMark};
 ghost use Rattle.percent.specs.Spread.{IsSpread};
 

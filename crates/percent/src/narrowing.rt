@@ -75,7 +75,8 @@ impl Marks {
     ghost use Rattle.hands.specs.HandSets.{has};
     ghost use Rattle.percent.specs.declared.marks.Mark.{Mark};
     ghost use Rattle.percent.specs.Building.{AreNarrowed, AreTested, IsUsedByAll, KeepsCounts};
-    ghost use Rattle.percent.specs.GoodHands.{LeavesOutBad, is_good};
+    ghost use Rattle.percent.specs.GoodHands.{is_good};
+    ghost use Rattle.percent.specs.LeftOut.{LeavesOutBad};
     ghost use Rattle.percent.specs.ListedHands.{AreMarksOf};
 
     /// Leaves out the tilings of a mark that are not used. All stay if there is not enough memory for a list without
