@@ -171,12 +171,13 @@ bad-placed marks q left rest index standing place below at k stands unset =
     (subst (SomeHas mark.tilings.tilings.items) (laid-sent marks.rows q)
     (record { tiling = has.tiling; listed = has.listed; has = All-head (λ part. HasPiece has.tiling (laid_part part)) (sent_part marks.rows q) later.tiling.parts has.all }))))
 
-pub bad-stand : (marks : Marks) (child : Child) (left rest index : ℕ) → IsChild marks.game marks.position child.placement.piece child → IsRestAt marks child.placement.piece left rest
-    → IsMarkOf marks.known.items child.placement.piece left rest index → IsStanding marks.known.items marks.rows child.placement child.standing → has_bit child.standing index ≡ false
+pub bad-stand : (marks : Marks) (child : Child) (piece : Piece) (left rest index : ℕ) → IsChild marks.game marks.position piece child → IsRestAt marks piece left rest
+    → IsMarkOf marks.known.items piece left rest index → IsStanding marks.known.items marks.rows child.placement child.standing → has_bit child.standing index ≡ false
     → is_good marks.game (filled child.position.well) child.position.rows left rest ≡ false
-bad-stand marks child left rest index is at k stands unset =
+bad-stand marks child piece left rest index is at k stands unset =
     (λ i. is_good marks.game (is.field i) (is.left i) left rest)
-    ∙ bad-placed marks child.placement left rest index child.standing is.place is.below at k stands unset
+    ∙ bad-placed marks child.placement left rest index child.standing is.place is.below (subst (λ piece. IsRestAt marks piece left rest) (sym is.kind) at)
+    (subst (λ piece. IsMarkOf marks.known.items piece left rest index) (sym is.kind) k) stands unset
 
 -- the tilings of a mark that have the placed piece list those by which a rest with its pieces is built
 pub mark-listed : (marks : Marks) (child : Child) (left rest other index : ℕ) (taken : Field) (old new : Mark) → IsChild marks.game marks.position child.placement.piece child

@@ -9,7 +9,8 @@ use Rattle.hands.specs.declared.hand_set.HandSet.{HandSet}
 use Rattle.hands.specs.HandSets.{has}
 use Rattle.hands.specs.Hands.{allows_hold, takes, with_first, with_second, without_first, without_second}
 use Rattle.percent.specs.declared.marks.Marks.{Marks}
-use Rattle.percent.specs.ListedHands.{AllListHand, AreMarksOf, AreRestsAt, IsRestAt}
+use Rattle.percent.specs.declared.marks.Asked.{Asked}
+use Rattle.percent.specs.ListedHands.{AllListHand, AreMarksOf, AreRestsAt, HasIndexes, IsAbout, IsAskedAt, IsRestAt}
 
 takes-first : (hold : Hold) (code rest : ℕ) → code < 8 → takes hold code (λ other. other == rest) (with_first code rest) ≡ true
 unfolding takes with_first without_first
@@ -53,6 +54,15 @@ rests-at marks piece left hold hands asked rests same fewer rests_are some lists
 -- so are some of them
 pub rests-fewer : (marks : Marks) (piece : Piece) (left : ℕ) (few many : ℕ → Bool) → ((rest : ℕ) → few rest ≡ true → many rest ≡ true) → AreRestsAt marks piece left many → AreRestsAt marks piece left few
 rests-fewer marks piece left few many fewer are = record { each = λ rest there. are.each rest (fewer rest there) }
+
+-- some of them are asked about
+pub asked-at : (marks : Marks) (piece : Piece) (left : ℕ) (many : ℕ → Bool) (asked : Asked) → IsAbout piece left asked → HasIndexes marks asked
+    → ((rest : ℕ) → has asked.rests rest ≡ true → many rest ≡ true) → AreRestsAt marks piece left many → IsAskedAt marks asked
+asked-at marks piece left many asked about indexes fewer are = record {
+  indexes = indexes;
+  rests = subst (λ p. AreRestsAt marks p asked.left (has asked.rests)) (sym about.kind)
+      (subst (λ n. AreRestsAt marks piece n (has asked.rests)) (sym about.to_come) (rests-fewer marks piece left (has asked.rests) many fewer are));
+}
 
 -- what is among some is there
 pub first-true : (a b c : Bool) → a ≡ (b && c) → a ≡ true → b ≡ true

@@ -4,13 +4,15 @@ use Rattle.lane_board.specs.Field.{Field}
 use Rattle.srs.specs.declared.piece.Piece.{Piece}
 use Rattle.srs.specs.Piece.{piece_code}
 use Rattle.hold_queue.specs.declared.hold.Hold.{Hold}
+use Rattle.hands.specs.HandSets.{has}
 use Rattle.hands.specs.Hands.{takes}
 use Rattle.empty_cells.specs.Empties.{empty_cells}
 use Rattle.tiled_pieces.specs.TilingLists.{HasParts}
+use Rattle.percent.specs.declared.marks.Asked.{Asked}
 use Rattle.percent.specs.declared.marks.Mark.{Mark}
 use Rattle.percent.specs.declared.marks.Marks.{Marks}
 use Rattle.percent.specs.BuiltHands.{IsBuiltBy}
-use Rattle.percent.specs.Marks.{HasCounts}
+use Rattle.percent.specs.Marks.{AreIndexes, HasCounts}
 
 -- If a mark is of the pieces of a hand, each tiling by which the hand is built is listed. This too can't be refuted.
 pub record ListsHand (E : Field) (drops : Bool) (hold : Hold) (left hand : ℕ) (mark : Mark) : Type 0 where
@@ -35,3 +37,18 @@ pub record IsRestAt (marks : Marks) (piece : Piece) (left rest : ℕ) : Type 0 w
 -- so is each of these rests
 pub record AreRestsAt (marks : Marks) (piece : Piece) (left : ℕ) (rests : ℕ → Bool) : Type 0 where
   pub each : (rest : ℕ) → rests rest ≡ true → IsRestAt marks piece left rest
+
+-- what is asked about a piece, with so many placements to come
+pub record IsAbout (piece : Piece) (left : ℕ) (asked : Asked) : Type 0 where
+  pub kind : asked.piece ≡ piece
+  pub to_come : asked.left ≡ left
+
+-- for each rest asked about the index of the mark of its pieces and this one, if there is one
+abbrev pub HasIndexes : Marks → Asked → Type 0
+HasIndexes marks asked =
+    AreIndexes marks.known.items asked.piece asked.left asked.numbers.items asked.indexes.items
+
+-- so it is, and the rests are what is left of hands whose tilings the marks list
+pub record IsAskedAt (marks : Marks) (asked : Asked) : Type 0 where
+  pub indexes : HasIndexes marks asked
+  pub rests : AreRestsAt marks asked.piece asked.left (has asked.rests)

@@ -5,8 +5,7 @@ ghost use Rattle.well.specs.Well.{filled};
 ghost use Rattle.percent.specs.Children.{IsChild};
 ghost use Rattle.percent.specs.GoodHands.{is_good, is_good_after};
 ghost use Rattle.percent.specs.Kept.{AreAnswered};
-ghost use Rattle.percent.specs.ListedHands.{AreMarksOf, AreRestsAt};
-ghost use Rattle.percent.specs.Marks.{AreIndexes};
+ghost use Rattle.percent.specs.ListedHands.{AreMarksOf, AreRestsAt, HasIndexes, IsAbout};
 
 use crate::kept::Kept;
 use crate::listed::{marks_after, marks_of};
@@ -31,18 +30,10 @@ fn answered_at_end(alloc: Global, position: &Position, hands: &HandSet) -> Resul
 }
 
 /// The rests asked about that were not found, at the position of the marks.
-fn less(
-    alloc: Global,
-    marks: &Marks,
-    piece: Piece,
-    left: u8,
-    asked: Asked,
-    found: &HandSet,
-) -> Result<Asked, NoMemory>
-    requires few { left ≤ 20 }
-    requires indexes { AreIndexes marks.now.known.items piece left asked.numbers.items asked.indexes.items }
-    ensures indexes { IfOk result (λ asked. AreIndexes marks.now.known.items piece left asked.numbers.items
-        asked.indexes.items) }
+fn less(alloc: Global, marks: &Marks, asked: Asked, found: &HandSet) -> Result<Asked, NoMemory>
+    requires indexes { HasIndexes marks.now asked }
+    ensures about { IfOk result (IsAbout asked.piece asked.left) }
+    ensures indexes { IfOk result (HasIndexes marks.now) }
     ensures members { IfOk result (λ less. (rest : ℕ) →
         has less.rests rest ≡ (has asked.rests rest && not (has found.now rest))) }
 {
@@ -50,7 +41,7 @@ fn less(
         return Ok(asked);
     }
     let rests = asked.rests.without(alloc, found)?;
-    marks.asked_of(alloc, piece, left, &asked, rests)
+    marks.asked_of(alloc, &asked, rests)
 }
 
 /// The hands that are good at the position after a placement, with `left` placements to come.
@@ -209,14 +200,14 @@ fn tried<L: Ledger>(
     }
     let all = rests.copied(alloc)?;
     let mut asked = marks.asked(alloc, piece, left, all)?;
-    let children = marks.children(alloc, kept, piece, left, &asked, steps)?;
+    let children = marks.children(alloc, kept, &asked, steps)?;
     for child in &children {
         if asked.rests.is_empty() {
             return rests.copied(alloc);
         }
-        let fit = marks.fitting_after(alloc, &mut kept.fits, child, left, &asked)?;
+        let fit = marks.fitting_after(alloc, &mut kept.fits, child, &asked)?;
         let good = answered(alloc, kept, marks, child, left, &fit, steps)?;
-        asked = less(alloc, marks, piece, left, asked, &good)?;
+        asked = less(alloc, marks, asked, &good)?;
     }
     rests.without(alloc, &asked.rests)
 }

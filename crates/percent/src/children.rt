@@ -13,8 +13,8 @@ ghost use Rattle.hands.specs.HandSets.{has};
 ghost use Rattle.percent.specs.Children.{IsChild};
 ghost use Rattle.percent.specs.GoodHands.{is_good, is_good_after};
 ghost use Rattle.percent.specs.Children.{is_good_at};
-ghost use Rattle.percent.specs.ListedHands.{AreRestsAt};
-ghost use Rattle.percent.specs.Marks.{AreIndexes, IsStanding};
+ghost use Rattle.percent.specs.ListedHands.{AreRestsAt, HasIndexes, IsAskedAt};
+ghost use Rattle.percent.specs.Marks.{IsStanding};
 ghost use Rattle.percent.specs.Standing.{AreStanding};
 ghost use Rattle.percent.specs.Wanted.{IsWanted};
 
@@ -41,10 +41,10 @@ struct WantedPieces {
 
 impl Marks {
     /// The marks of the rests asked about: bit `k` stands for mark `k`. `None` if a rest has no mark.
-    fn wanted(&self, piece: Piece, left: u8, asked: &Asked) -> Option<u64>
-        requires { AreIndexes self.now.known.items piece left asked.now.numbers.items asked.now.indexes.items }
+    fn wanted(&self, asked: &Asked) -> Option<u64>
+        requires { HasIndexes self.now asked.now }
         ensures { IfSome result (λ wanted. (rest : ℕ) → has asked.now.rests rest ≡ true
-            → IsWanted self.now.known.items piece left rest wanted) }
+            → IsWanted self.now.known.items asked.now.piece asked.now.left rest wanted) }
     {
         let mut wanted = 0u64;
         for index in &asked.indexes {
@@ -123,21 +123,21 @@ impl Marks {
         placement: &Placement,
         taken: &Empties,
         standing: u64,
-        left: u8,
         asked: &Asked,
         wanted: Option<u64>,
     ) -> bool
         requires place { IsPlace (table_of self.now.game.rules) (filled self.now.position.well)
             self.now.game.drop_mode placement.now }
         requires below { IsTrue (is_below self.now.position.rows placement.now) }
-        requires rests { AreRestsAt self.now placement.now.piece left (has asked.now.rests) }
+        requires rests { AreRestsAt self.now placement.now.piece asked.now.left (has asked.now.rests) }
         requires taken { empty_cells taken.now ≡ sent_cells self.now.rows placement.now }
         requires standing { IsStanding self.now.known.items self.now.rows placement.now standing }
         requires wanted { IfSome wanted (λ wanted. (rest : ℕ) → has asked.now.rests rest ≡ true
-            → IsWanted self.now.known.items placement.now.piece left rest wanted) }
+            → IsWanted self.now.known.items placement.now.piece asked.now.left rest wanted) }
         ensures { result ≡ false → (rest : ℕ) → has asked.now.rests rest ≡ true
             → is_good self.now.game (locked (filled self.now.position.well) placement.now)
-            (self.now.position.rows - rows_removed (filled self.now.position.well) placement.now) left rest ≡ false }
+            (self.now.position.rows - rows_removed (filled self.now.position.well) placement.now)
+            asked.now.left rest ≡ false }
     {
         let Some(wanted) = wanted else {
             return !self.leaves_uneven_part(taken);
@@ -151,32 +151,29 @@ impl Marks {
         &self,
         alloc: Global,
         kept: &Kept,
-        piece: Piece,
-        left: u8,
         asked: &Asked,
         steps: &mut Steps<L>,
     ) -> Result<Vec<Child>, NoMemory>
-        requires few { left ≤ 20 }
         requires game { kept.now.game ≡ self.now.game }
-        requires indexes { AreIndexes self.now.known.items piece left asked.now.numbers.items asked.now.indexes.items }
-        requires rests { AreRestsAt self.now piece left (has asked.now.rests) }
-        ensures after { IfOk result (λ v. All (IsChild self.now.game self.now.position piece) v.items) }
+        requires asked { IsAskedAt self.now asked.now }
+        ensures after { IfOk result (λ v. All (IsChild self.now.game self.now.position asked.now.piece) v.items) }
         ensures standing { IfOk result (λ v. All (λ child. IsStanding self.now.known.items self.now.rows
             child.placement child.standing) v.items) }
         ensures good { IfOk result (λ v. (rest : ℕ) → has asked.now.rests rest ≡ true
-            → is_good_at kept.now.game v.items left rest
-            ≡ is_good_after kept.now.game (filled self.now.position.well) self.now.position.rows piece left rest) }
+            → is_good_at kept.now.game v.items asked.now.left rest
+            ≡ is_good_after kept.now.game (filled self.now.position.well) self.now.position.rows asked.now.piece
+            asked.now.left rest) }
         ensures counted { steps.new ≡ steps.old + 1 }
     {
         let position = &self.position;
-        let wanted = self.wanted(piece, left, asked);
-        let mut places = kept.places_below(position, piece, steps);
-        let pieces = self.wanted_pieces(alloc, piece, wanted.unwrap_or(u64::MAX));
+        let wanted = self.wanted(asked);
+        let mut places = kept.places_below(position, asked.piece, steps);
+        let pieces = self.wanted_pieces(alloc, asked.piece, wanted.unwrap_or(u64::MAX));
         let mut children = Vec::new(alloc);
         while let Some(placement) = places.take_least() {
             let taken = self.taken(&placement);
             let standing = self.standing(&placement, &taken, &pieces);
-            if self.is_worth(&placement, &taken, standing, left, asked, wanted) {
+            if self.is_worth(&placement, &taken, standing, asked, wanted) {
                 children.push(Child {
                     placement,
                     position: position.after(&placement),

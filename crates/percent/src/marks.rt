@@ -16,7 +16,7 @@ ghost use Rattle.percent.specs.Children.{IsChild};
 ghost use Rattle.percent.specs.Counts.{codes_with};
 ghost use Rattle.percent.specs.GoodHands.{is_good};
 ghost use Rattle.percent.specs.LeftOut.{LeavesOutBad};
-ghost use Rattle.percent.specs.Marks.{AreIndexes, HasMarkAt, IsMarkOf, IsStanding, IsTrueMark};
+ghost use Rattle.percent.specs.Marks.{HasMarkAt, IsMarkOf, IsStanding, IsTrueMark};
 ghost use Rattle.percent.specs.Spread.{IsSpread};
 
 use crate::fitting::{Counts, FitMemory, are_same, counts_of, fitting, supply_of};
@@ -57,12 +57,17 @@ pub struct Marks {
     ghost hard: { drops ≡ true → IsHardSrs game },
 }
 
-/// Rests of hands, their numbers, and for each the index of the mark of its pieces, if there is one.
+/// What is asked about a piece that is placed: rests of hands, their numbers, and for each the index of the mark of its
+/// pieces and this one, if there is one.
 #[derive(Drop)]
 pub struct Asked {
+    pub piece: Piece,
+    /// How many placements are to come after it.
+    pub left: u8,
     pub rests: HandSet,
     pub numbers: Vec<u64>,
     pub indexes: Vec<Option<u8>>,
+    ghost few: { left ≤ 20 },
     ghost listed: { (rest : ℕ) → has_number numbers.items rest ≡ has rests rest },
 }
 
@@ -137,7 +142,7 @@ fn may_stand(index: Option<u8>, standing: u64) -> bool
 
 impl Marks {
     ghost use Rattle.std.specs.Prelude.{[]};
-    ghost use Rattle.percent.specs.ListedHands.{AreRestsAt};
+    ghost use Rattle.percent.specs.ListedHands.{HasIndexes, IsAbout, IsAskedAt};
 
     /// Nothing is known yet about the empty cells of a position.
     pub fn new(alloc: Global, game: &Game, position: &Position) -> Marks
@@ -218,9 +223,9 @@ impl Marks {
         rests: HandSet,
     ) -> Result<Asked, NoMemory>
         requires { left ≤ 20 }
+        ensures about { IfOk result (IsAbout piece left) }
         ensures rests { IfOk result (λ asked. asked.rests ≡ rests) }
-        ensures indexes { IfOk result (λ asked. AreIndexes self.now.known.items piece left asked.numbers.items
-            asked.indexes.items) }
+        ensures indexes { IfOk result (HasIndexes self.now) }
     {
         let numbers = rests.numbers(alloc)?;
         let mut indexes = Vec::with_capacity(alloc, numbers.len())?;
@@ -230,6 +235,8 @@ impl Marks {
             indexes.push(index)?;
         }
         Ok(Asked {
+            piece,
+            left,
             rests,
             numbers,
             indexes,
@@ -237,31 +244,22 @@ impl Marks {
     }
 
     /// The index of the mark of a rest: the one that is known, if the rest stands there among those asked about.
-    fn index_for(&self, asked: &Asked, at: usize, rest: u64, left: u8, piece: Piece) -> Option<u8>
-        requires few { left ≤ 20 }
-        requires indexes { AreIndexes self.now.known.items piece left asked.now.numbers.items asked.now.indexes.items }
-        ensures { IfSome result (IsMarkOf self.now.known.items piece left rest) }
+    fn index_for(&self, asked: &Asked, at: usize, rest: u64) -> Option<u8>
+        requires { HasIndexes self.now asked.now }
+        ensures { IfSome result (IsMarkOf self.now.known.items asked.now.piece asked.now.left rest) }
     {
         if at < asked.numbers.len() && asked.numbers[at] == rest {
             return asked.indexes[at];
         }
-        self.index_with(rest, left, piece, None)
+        self.index_with(rest, asked.left, asked.piece, None)
     }
 
     /// Some of the rests asked about, with their indexes.
-    pub fn asked_of(
-        &self,
-        alloc: Global,
-        piece: Piece,
-        left: u8,
-        asked: &Asked,
-        rests: HandSet,
-    ) -> Result<Asked, NoMemory>
-        requires few { left ≤ 20 }
-        requires indexes { AreIndexes self.now.known.items piece left asked.now.numbers.items asked.now.indexes.items }
+    pub fn asked_of(&self, alloc: Global, asked: &Asked, rests: HandSet) -> Result<Asked, NoMemory>
+        requires { HasIndexes self.now asked.now }
+        ensures about { IfOk result (IsAbout asked.now.piece asked.now.left) }
         ensures rests { IfOk result (λ asked. asked.rests ≡ rests) }
-        ensures indexes { IfOk result (λ asked. AreIndexes self.now.known.items piece left asked.numbers.items
-            asked.indexes.items) }
+        ensures indexes { IfOk result (HasIndexes self.now) }
     {
         let numbers = rests.numbers(alloc)?;
         let mut indexes = Vec::with_capacity(alloc, numbers.len())?;
@@ -270,9 +268,11 @@ impl Marks {
             while next < asked.numbers.len() && asked.numbers[next] != *rest {
                 next += 1;
             }
-            indexes.push(self.index_for(asked, next, *rest, left, piece))?;
+            indexes.push(self.index_for(asked, next, *rest))?;
         }
         Ok(Asked {
+            piece: asked.piece,
+            left: asked.left,
             rests,
             numbers,
             indexes,
@@ -280,21 +280,12 @@ impl Marks {
     }
 
     /// Those of the rests asked about with which a placement may stand in a tiling. The others are not good after it.
-    fn likely(
-        &self,
-        alloc: Global,
-        child: &Child,
-        left: u8,
-        asked: &Asked,
-    ) -> Result<HandSet, NoMemory>
-        requires few { left ≤ 20 }
-        requires indexes { AreIndexes self.now.known.items child.now.placement.piece left asked.now.numbers.items
-            asked.now.indexes.items }
-        requires child { IsChild self.now.game self.now.position child.now.placement.piece child.now }
-        requires rests { AreRestsAt self.now child.now.placement.piece left (has asked.now.rests) }
+    fn likely(&self, alloc: Global, child: &Child, asked: &Asked) -> Result<HandSet, NoMemory>
+        requires asked { IsAskedAt self.now asked.now }
+        requires child { IsChild self.now.game self.now.position asked.now.piece child.now }
         requires standing { IsStanding self.now.known.items self.now.rows child.now.placement child.now.standing }
         ensures { IfOk result (λ likely. LeavesOutBad (is_good self.now.game (filled child.now.position.well)
-            child.now.position.rows left) (has asked.now.rests) (has likely)) }
+            child.now.position.rows asked.now.left) (has asked.now.rests) (has likely)) }
     {
         let rests = asked.numbers.as_slice();
         let indexes = asked.indexes.as_slice();
@@ -313,21 +304,23 @@ impl Marks {
         alloc: Global,
         fits: &mut FitMemory,
         child: &Child,
-        left: u8,
         asked: &Asked,
     ) -> Result<HandSet, NoMemory>
-        requires few { left ≤ 20 }
-        requires indexes { AreIndexes self.now.known.items child.now.placement.piece left asked.now.numbers.items
-            asked.now.indexes.items }
-        requires child { IsChild self.now.game self.now.position child.now.placement.piece child.now }
-        requires rests { AreRestsAt self.now child.now.placement.piece left (has asked.now.rests) }
+        requires asked { IsAskedAt self.now asked.now }
+        requires child { IsChild self.now.game self.now.position asked.now.piece child.now }
         requires standing { IsStanding self.now.known.items self.now.rows child.now.placement child.now.standing }
         ensures { IfOk result (λ likely. LeavesOutBad (is_good self.now.game (filled child.now.position.well)
-            child.now.position.rows left) (has asked.now.rests) (has likely)) }
+            child.now.position.rows asked.now.left) (has asked.now.rests) (has likely)) }
     {
-        if self.is_empty() && left > 0 {
-            return fitting(alloc, fits, &child.position, left, asked.numbers.as_slice());
+        if self.is_empty() && asked.left > 0 {
+            return fitting(
+                alloc,
+                fits,
+                &child.position,
+                asked.left,
+                asked.numbers.as_slice(),
+            );
         }
-        self.likely(alloc, child, left, asked)
+        self.likely(alloc, child, asked)
     }
 }

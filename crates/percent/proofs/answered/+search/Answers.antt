@@ -11,13 +11,14 @@ use Rattle.hands.specs.HandSets.{has}
 use Rattle.percent.specs.declared.position.Child.{Child}
 use Rattle.percent.specs.declared.game.Game.{Game}
 use Rattle.percent.specs.Children.{IsChild}
-use Rattle.percent.specs.ListedHands.{AreRestsAt}
-use Rattle.percent.specs.Marks.{AreIndexes, IsStanding}
+use Rattle.percent.specs.declared.marks.Asked.{Asked}
+use Rattle.percent.specs.ListedHands.{AreRestsAt, IsAbout}
+use Rattle.percent.specs.Marks.{IsStanding}
 use Rattle.percent.specs.GoodHands.{is_good, is_good_after}
 use Rattle.percent.specs.Children.{is_good_at}
 use Rattle.std.proofs.lemmas.Result.{IfOk-weaker}
 use Rattle.percent.proofs.GoodSteps.{answer-found, answer-known, answer-looked, answers-at, explore-open, explore-step, found-good, good-ends, none-of, open-bad, try-all, try-ends, try-starts, try-step}
-use Rattle.percent.proofs.RestLemmas.{first-true, rests-at, rests-fewer}
+use Rattle.percent.proofs.RestLemmas.{asked-at, first-true, rests-at, rests-fewer}
 use Rattle.percent.proofs.answered.+search.Goals as goal
 
 -- what holds of a value that may be there holds of the one that is
@@ -123,8 +124,14 @@ pub tried-loop-child-init : goal.tried-loop-child-init
 tried-loop-child-init g t c = (
   try-starts c.args.kept.now.game c.args.left c.deref-child-items.result.now c.args.rests.now c.in_ok-asked.asked.rests c.args.steps.now c.children.new.steps
       (all-asked c.in_ok-asked.asked.rests c.in_ok-all.all c.args.rests.now c.in_ok-asked.ensures.rests c.in_ok-all.ensures) (omega (arith, c.in_ok-children.ensures.counted)),
+  c.in_ok-asked.ensures.about,
   c.in_ok-asked.ensures.indexes,
 )
+
+pub tried-children-requires-clause-asked : goal.tried-children-requires-clause-asked
+tried-children-requires-clause-asked g t c =
+    asked-at c.args.marks.now c.args.piece c.args.left (has c.args.rests.now) c.in_ok-asked.asked c.in_ok-asked.ensures.about c.in_ok-asked.ensures.indexes
+    (λ rest there. sym (all-asked c.in_ok-asked.asked.rests c.in_ok-all.all c.args.rests.now c.in_ok-asked.ensures.rests c.in_ok-all.ensures rest) ∙ there) c.requires.rests
 
 -- what holds of all children holds of that of the iteration
 holds_of : (P : Child → Type 0) (items children : List Child) (i : ℕ) (child : Child) → children ≡ items → All P items → i < length children → child ≡ get_or children i child → P child
@@ -133,9 +140,9 @@ holds_of P items children i child same all within is = subst P (sym is) (subst (
 pub tried-fitting_after-requires-clause-child : goal.tried-fitting_after-requires-clause-child
 tried-fitting_after-requires-clause-child g t c =
     let marks = c.args.marks.now in
-    let is = holds_of (IsChild marks.game marks.position c.args.piece) c.in_ok-children.children.items c.deref-child-items.result.now c.loop-child.child-index c.child-item.result
-    c.deref-child-items.ensures.value c.in_ok-children.ensures.after c.loop-child-test.true c.child-item.is in
-    subst (λ piece. IsChild marks.game marks.position piece c.child-item.result) (sym is.kind) is
+    subst (λ piece. IsChild marks.game marks.position piece c.child-item.result) (c.in_ok-asked.ensures.about.kind ∙ sym c.loop-child.invariant.1.kind)
+    (holds_of (IsChild marks.game marks.position c.in_ok-asked.asked.piece) c.in_ok-children.children.items c.deref-child-items.result.now c.loop-child.child-index c.child-item.result
+    c.deref-child-items.ensures.value c.in_ok-children.ensures.after c.loop-child-test.true c.child-item.is)
 
 pub tried-fitting_after-requires-clause-standing : goal.tried-fitting_after-requires-clause-standing
 tried-fitting_after-requires-clause-standing g t c =
@@ -143,41 +150,49 @@ tried-fitting_after-requires-clause-standing g t c =
     holds_of (λ child. IsStanding marks.known.items marks.rows child.placement child.standing) c.in_ok-children.children.items c.deref-child-items.result.now c.loop-child.child-index c.child-item.result
     c.deref-child-items.ensures.value c.in_ok-children.ensures.standing c.loop-child-test.true c.child-item.is
 
-pub tried-fitting_after-requires-clause-indexes : goal.tried-fitting_after-requires-clause-indexes
-tried-fitting_after-requires-clause-indexes g t c =
-    let marks = c.args.marks.now in
-    let is = holds_of (IsChild marks.game marks.position c.args.piece) c.in_ok-children.children.items c.deref-child-items.result.now c.loop-child.child-index c.child-item.result
-    c.deref-child-items.ensures.value c.in_ok-children.ensures.after c.loop-child-test.true c.child-item.is in
-    subst (λ piece. AreIndexes marks.known.items piece c.args.left c.loop-child.asked.numbers.items c.loop-child.asked.indexes.items) (sym is.kind) c.loop-child.invariant.1
+pub tried-fitting_after-requires-clause-asked : goal.tried-fitting_after-requires-clause-asked
+tried-fitting_after-requires-clause-asked g t c =
+    asked-at c.args.marks.now c.args.piece c.args.left (has c.args.rests.now) c.loop-child.asked c.loop-child.invariant.1 c.loop-child.invariant.2
+    (λ rest. first-true (has c.loop-child.asked.rests rest) (has c.args.rests.now rest) _ (c.loop-child.invariant.0.members rest)) c.requires.rests
 
-pub tried-fitting_after-requires-clause-rests : goal.tried-fitting_after-requires-clause-rests
-tried-fitting_after-requires-clause-rests g t c =
+pub tried-answered-requires : goal.tried-answered-requires
+tried-answered-requires g t c =
     let marks = c.args.marks.now in
-    let is = holds_of (IsChild marks.game marks.position c.args.piece) c.in_ok-children.children.items c.deref-child-items.result.now c.loop-child.child-index c.child-item.result
+    let is = holds_of (IsChild marks.game marks.position c.in_ok-asked.asked.piece) c.in_ok-children.children.items c.deref-child-items.result.now c.loop-child.child-index c.child-item.result
     c.deref-child-items.ensures.value c.in_ok-children.ensures.after c.loop-child-test.true c.child-item.is in
-    subst (λ piece. AreRestsAt marks piece c.args.left (has c.loop-child.asked.rests)) (sym is.kind)
-    (rests-fewer marks c.args.piece c.args.left (has c.loop-child.asked.rests) (has c.args.rests.now)
-    (λ rest. first-true (has c.loop-child.asked.rests rest) (has c.args.rests.now rest) _ (c.loop-child.invariant.0.members rest)) c.requires.rests)
+    let child = subst (λ piece. IsChild marks.game marks.position piece c.child-item.result) (sym is.kind) is in
+    let rests = subst (λ piece. AreRestsAt marks piece c.args.left (has c.in_ok-fit.fit)) (sym (is.kind ∙ c.in_ok-asked.ensures.about.kind))
+    (rests-fewer marks c.args.piece c.args.left (has c.in_ok-fit.fit) (has c.args.rests.now)
+    (λ rest there. first-true (has c.loop-child.asked.rests rest) (has c.args.rests.now rest) _ (c.loop-child.invariant.0.members rest) (c.in_ok-fit.ensures.fewer rest there)) c.requires.rests) in
+    let link = c.loop-child.invariant.0.same ∙ c.requires.game in
+    search (rules, link, child, rests)
 
 pub tried-loop-child-preserved : goal.tried-loop-child-preserved
-tried-loop-child-preserved g t c = (
-  try-step c.args.kept.now.game c.loop-child.kept.game c.answered.new.kept.game c.args.left c.deref-child-items.result.now c.args.rests.now
-      c.loop-child.asked.rests c.in_ok-good.good c.in_ok-asked-2.asked.rests
-      c.args.steps.now c.loop-child.steps c.answered.new.steps c.loop-child.child-index c.child-item.result
-      c.loop-child.invariant.0 c.loop-child-test.true (sym c.child-item.is)
-      (λ rest. c.in_ok-good.ensures.members rest
-      ∙ subst (λ (game : Game). (has c.in_ok-fit.fit rest && is_good game (filled c.child-item.result.position.well) c.child-item.result.position.rows c.args.left rest)
-      ≡ (has c.loop-child.asked.rests rest && is_good game (filled c.child-item.result.position.well) c.child-item.result.position.rows c.args.left rest))
-      (sym (c.loop-child.invariant.0.same ∙ c.requires.game)) (c.in_ok-fit.ensures.same rest))
-      c.in_ok-good.ensures.game c.in_ok-good.ensures.counted c.in_ok-asked-2.ensures.members,
-  c.in_ok-asked-2.ensures.indexes,
-)
+tried-loop-child-preserved g t c =
+    let about = c.loop-child.invariant.1 in
+    let p = c.child-item.result.position in (
+      try-step c.args.kept.now.game c.loop-child.kept.game c.answered.new.kept.game c.args.left c.deref-child-items.result.now c.args.rests.now
+          c.loop-child.asked.rests c.in_ok-good.good c.in_ok-asked-2.asked.rests
+          c.args.steps.now c.loop-child.steps c.answered.new.steps c.loop-child.child-index c.child-item.result
+          c.loop-child.invariant.0 c.loop-child-test.true (sym c.child-item.is)
+          (λ rest. c.in_ok-good.ensures.members rest
+          ∙ subst (λ (game : Game). (has c.in_ok-fit.fit rest && is_good game (filled p.well) p.rows c.args.left rest)
+          ≡ (has c.loop-child.asked.rests rest && is_good game (filled p.well) p.rows c.args.left rest))
+          (sym (c.loop-child.invariant.0.same ∙ c.requires.game))
+          (subst (λ left. (has c.in_ok-fit.fit rest && is_good c.args.marks.now.game (filled p.well) p.rows left rest)
+          ≡ (has c.loop-child.asked.rests rest && is_good c.args.marks.now.game (filled p.well) p.rows left rest)) about.to_come (c.in_ok-fit.ensures.same rest)))
+          c.in_ok-good.ensures.game c.in_ok-good.ensures.counted c.in_ok-asked-2.ensures.members,
+      record { kind = c.in_ok-asked-2.ensures.about.kind ∙ about.kind; to_come = c.in_ok-asked-2.ensures.about.to_come ∙ about.to_come },
+      c.in_ok-asked-2.ensures.indexes,
+    )
 
 -- what is said of the rests asked about at first is said of all
-children-are : (children items : List Child) (asked rests : HandSet) (good : ℕ → Bool) (game : Game) (left : ℕ) → items ≡ children → ((rest : ℕ) → has asked rest ≡ has rests rest)
-    → ((rest : ℕ) → has asked rest ≡ true → is_good_at game children left rest ≡ good rest)
-    → (rest : ℕ) → has rests rest ≡ true → is_good_at game items left rest ≡ good rest
-children-are children items asked rests good game left same all are rest there = ap (λ l. is_good_at game l left rest) same ∙ are rest (all rest ∙ there)
+children-are : (children items : List Child) (asked : Asked) (rests : HandSet) (good : Piece → ℕ → ℕ → Bool) (game : Game) (piece : Piece) (left : ℕ) → IsAbout piece left asked → items ≡ children
+    → ((rest : ℕ) → has asked.rests rest ≡ has rests rest) → ((rest : ℕ) → has asked.rests rest ≡ true → is_good_at game children asked.left rest ≡ good asked.piece asked.left rest)
+    → (rest : ℕ) → has rests rest ≡ true → is_good_at game items left rest ≡ good piece left rest
+children-are children items asked rests good game piece left about same all are rest there =
+    subst (λ n. is_good_at game items n rest ≡ good piece n rest) about.to_come
+    (subst (λ p. is_good_at game items asked.left rest ≡ good p asked.left rest) about.kind (ap (λ l. is_good_at game l asked.left rest) same ∙ are rest (all rest ∙ there)))
 
 pub tried-returns-then-is_empty-2-clause-members : goal.tried-returns-then-is_empty-2-clause-members
 tried-returns-then-is_empty-2-clause-members g t c =
@@ -187,8 +202,8 @@ tried-returns-then-is_empty-2-clause-members g t c =
     (λ v h rest. h rest
     ∙ try-all c.args.kept.now.game c.loop-child.kept.game (filled p.well) p.rows c.args.piece c.args.left c.deref-child-items.result.now c.args.rests.now c.loop-child.asked.rests
     c.args.steps.now c.loop-child.steps c.loop-child.child-index c.loop-child.invariant.0 (c.is_empty-in-loop-child.ensures.0 c.if-is_empty-2.true)
-    (children-are c.in_ok-children.children.items c.deref-child-items.result.now c.in_ok-asked.asked.rests c.args.rests.now (is_good_after c.args.kept.now.game (filled p.well) p.rows c.args.piece c.args.left)
-    c.args.kept.now.game c.args.left c.deref-child-items.ensures.value all c.in_ok-children.ensures.good)
+    (children-are c.in_ok-children.children.items c.deref-child-items.result.now c.in_ok-asked.asked c.args.rests.now (is_good_after c.args.kept.now.game (filled p.well) p.rows)
+    c.args.kept.now.game c.args.piece c.args.left c.in_ok-asked.ensures.about c.deref-child-items.ensures.value all c.in_ok-children.ensures.good)
     rest)
     c.copied-then-is_empty-2.ensures
 
@@ -199,7 +214,7 @@ tried-returns-clause-members g t c =
     IfOk-weaker c.without.result _ _
     (λ v h. try-ends c.args.kept.now.game c.loop-child.kept.game (filled p.well) p.rows c.args.piece c.args.left c.deref-child-items.result.now c.args.rests.now c.loop-child.asked.rests v
     c.args.steps.now c.loop-child.steps c.loop-child.child-index c.loop-child.invariant.0 c.loop-child-test.false
-    (children-are c.in_ok-children.children.items c.deref-child-items.result.now c.in_ok-asked.asked.rests c.args.rests.now (is_good_after c.args.kept.now.game (filled p.well) p.rows c.args.piece c.args.left)
-    c.args.kept.now.game c.args.left c.deref-child-items.ensures.value all c.in_ok-children.ensures.good)
+    (children-are c.in_ok-children.children.items c.deref-child-items.result.now c.in_ok-asked.asked c.args.rests.now (is_good_after c.args.kept.now.game (filled p.well) p.rows)
+    c.args.kept.now.game c.args.piece c.args.left c.in_ok-asked.ensures.about c.deref-child-items.ensures.value all c.in_ok-children.ensures.good)
     h)
     c.without.ensures

@@ -1,6 +1,6 @@
 use Rattle.std.proofs.Common.{◌+◌, ◌-◌, ◌*◌}
 use Rattle.well.specs.Well.{filled}
-use Rattle.percent.specs.Marks.{AreIndexes}
+use Rattle.percent.specs.ListedHands.{HasIndexes, IsAbout}
 use Rattle.percent.proofs.GoodSteps.{Exploring, Trying}
 use Rattle.percent.proofs.answered.+search.Given as goal
 
@@ -26,4 +26,5 @@ invariant-missed-loop-piece g l =
 abbrev pub invariant-tried-loop-child : goal.invariant-tried-loop-child
 invariant-tried-loop-child g l =
     Trying l.fn.kept.game l.kept.game l.left l.child-items l.rests l.asked.rests l.fn.steps l.steps l.child-index
-    × AreIndexes l.marks.known.items l.piece l.left l.asked.numbers.items l.asked.indexes.items
+    × IsAbout l.fn.piece l.left l.asked
+    × HasIndexes l.marks l.asked

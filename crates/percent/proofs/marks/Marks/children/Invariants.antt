@@ -8,9 +8,9 @@ use Rattle.percent.proofs.marks.Marks.children.Given as goal
 
 abbrev pub invariant-loop-placement : goal.invariant-loop-placement
 invariant-loop-placement g l =
-    Entering l.kept.game (filled l.position.well) l.position.rows l.fn.piece l.left l.fn.asked.rests l.children.items l.places
-    × All (IsChild l.self.game l.self.position l.fn.piece) l.children.items
+    Entering l.kept.game (filled l.position.well) l.position.rows l.fn.asked.piece l.fn.asked.left l.fn.asked.rests l.children.items l.places
+    × All (IsChild l.self.game l.self.position l.fn.asked.piece) l.children.items
     × All (λ child. IsStanding l.self.known.items l.self.rows child.placement child.standing) l.children.items
 
 abbrev pub decreases-loop-placement : goal.decreases-loop-placement
-decreases-loop-placement g l = held_count l.places l.fn.piece
+decreases-loop-placement g l = held_count l.places l.fn.asked.piece

@@ -17,14 +17,14 @@ pub returns : goal.returns
 returns c = λ no rest here.
     let marks = c.args.self.now in
     let q = c.args.placement.now in
-    let wanted = subst (λ (o : Option ℕ). IfSome o (λ wanted. (rest : ℕ) → has c.args.asked.now.rests rest ≡ true → IsWanted marks.known.items q.piece c.args.left rest wanted)) c.in-Some.is c.requires.wanted in
-    bad-wanted marks q c.args.left rest c.in-Some.wanted c.args.standing c.requires.place c.requires.below (c.requires.rests.each rest here) (wanted rest here) c.requires.standing
+    let wanted = subst (λ (o : Option ℕ). IfSome o (λ wanted. (rest : ℕ) → has c.args.asked.now.rests rest ≡ true → IsWanted marks.known.items q.piece c.args.asked.now.left rest wanted)) c.in-Some.is c.requires.wanted in
+    bad-wanted marks q c.args.asked.now.left rest c.in-Some.wanted c.args.standing c.requires.place c.requires.below (c.requires.rests.each rest here) (wanted rest here) c.requires.standing
     (eqb-true (bit_and c.args.standing c.in-Some.wanted) 0 (not-false (bit_and c.args.standing c.in-Some.wanted == 0) no))
 
 pub returns-in_default : goal.returns-in_default
 returns-in_default c = λ no rest here.
     let marks = c.args.self.now in
     let q = c.args.placement.now in
-    walled-bad marks.game marks.position q c.args.left rest marks.rows (empty_cells marks.cells) marks.spread
+    walled-bad marks.game marks.position q c.args.asked.now.left rest marks.rows (empty_cells marks.cells) marks.spread
     (place-free (table_of marks.game.rules) (filled marks.position.well) marks.game.drop_mode q c.requires.place) c.requires.below
     (subst (λ (E : Field). (supply : Supply) → Tiling (all_but (difference (empty_cells marks.cells) E)) 8 supply → ⊥) c.requires.taken (c.leaves_uneven_part.ensures (not-false c.leaves_uneven_part.result no)))

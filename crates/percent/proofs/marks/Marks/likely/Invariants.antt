@@ -5,4 +5,4 @@ use Rattle.percent.proofs.marks.Marks.likely.Given as goal
 
 abbrev pub invariant-loop-index : goal.invariant-loop-index
 invariant-loop-index l =
-    Sifting (is_good l.self.game (filled l.child.position.well) l.child.position.rows l.left) l.rests l.likely l.index
+    Sifting (is_good l.self.game (filled l.child.position.well) l.child.position.rows l.asked.left) l.rests l.likely l.index
