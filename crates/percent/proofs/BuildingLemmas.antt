@@ -205,12 +205,6 @@ pub record OwnSoFar (wanted : List ℕ) (left : ℕ) (hands own indexes : List �
   pub those : AreOwn wanted left hands own indexes
   pub all : (n : ℕ) → n < i → HasCounts wanted left (get_or hands n 0) → has_number own (get_or hands n 0) ≡ true
 
-pub own-starts : (wanted : List ℕ) (left : ℕ) (hands own indexes : List ℕ) → own ≡ [] → indexes ≡ [] → OwnSoFar wanted left hands own indexes 0
-own-starts wanted left hands own indexes none nil = record {
-  those = record { size = ap length nil ∙ sym (ap length none); each = λ k low. let size : length own ≡ 0 = ap length none in absurd (omega (arith, size)) };
-  all = λ n low. absurd (omega arith);
-}
-
 pub own-more : (wanted : List ℕ) (left : ℕ) (hands own indexes : List ℕ) (i : ℕ) → i < length hands → HasCounts wanted left (get_or hands i 0)
     → OwnSoFar wanted left hands own indexes i → OwnSoFar wanted left hands (own ++ get_or hands i 0 ∷ []) (indexes ++ i ∷ []) (i + 1)
 own-more wanted left hands own indexes i within here state = record {
