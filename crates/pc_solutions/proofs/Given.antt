@@ -1,4 +1,4 @@
--- The numbers of a solution may be given, and what is given for the needed length.
+-- The numbers of a solution may be given, and what is asked with the needed length.
 use Rattle.std.proofs.Common.{◌≡◌, ℕ, ◌-◌, List, [], ◌∷◌, All, Option, None, sym, subst, rules}
 use Rattle.std.proofs.lemmas.List.Elements.{All-cons, All-nil}
 use Rattle.lane_board.specs.Field.{Field}
@@ -16,7 +16,8 @@ use Rattle.problem.specs.Problem.{IsFit, needed_of}
 use Rattle.problem.specs.Solution.{IsSolution}
 use Rattle.problem.proofs.CallerLemmas.{long-needed}
 use Rattle.pc_path.specs.Output.{IsGiven}
-use Rattle.pc_solutions.specs.Asked.{IsAfter}
+use Rattle.pc_settings.specs.Request.{PathRequest}
+use Rattle.pc_solutions.specs.Asked.{AsksAfter, IsAfter, IsAsked}
 
 played_within : (table : Table) (mode : DropMode) (F : Field) (rows : ℕ) (sequence : List Placement) → Plays table mode F rows sequence → All HasPivotInWell sequence
 played_within table mode F rows [] plays = All-nil HasPivotInWell
@@ -29,7 +30,9 @@ pub solution_numbers : (problem : Problem) (sequence : List Placement) → IsFit
 solution_numbers problem sequence fit solution = search (rules, long-needed, played_within)
 
 -- the length is the needed one
-pub given_needed : (length all : ℕ) (numbers : List ℕ) (text : Option (List ℕ)) (listed after : Option (List Placement)) → length ≡ all → IsGiven all text listed
-    → ((text : Option (List ℕ)) → IsGiven length text listed → IsAfter length numbers text after) → IsAfter all numbers text after
-given_needed length all numbers text listed after same given goes =
-    subst (λ n. IsAfter n numbers text after) same (goes text (subst (λ n. IsGiven n text listed) (sym same) given))
+pub asks_after : (length : ℕ) (request : PathRequest) (bytes numbers : List ℕ) (problem : Problem) (listed after : Option (List Placement)) → length ≡ needed_of problem → IsAsked request bytes problem
+    → IsGiven (needed_of problem) request.after listed → ((text : Option (List ℕ)) → IsGiven length text listed → IsAfter length numbers text after) → AsksAfter request bytes numbers problem after
+asks_after length request bytes numbers problem listed after same asked given goes = record {
+  asked = asked;
+  given = subst (λ n. IsAfter n numbers request.after after) same (goes request.after (subst (λ n. IsGiven n request.after listed) (sym same) given));
+}

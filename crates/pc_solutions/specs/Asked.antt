@@ -32,18 +32,22 @@ pub record HasNoSequence (request : PathRequest) (bytes numbers : List ℕ) : Ty
   pub some : numbers ≢ []
   pub none : (sequence : List Placement) → AreNumbersOf (needed_of problem) numbers sequence → ⊥
 
--- there is not room for the numbers of one solution
+-- no fault stands, this problem is asked about, and this sequence is given, or none
+pub record AsksAfter (request : PathRequest) (bytes numbers : List ℕ) (problem : Problem)
+    (after : Option (List Placement)) : Type 0 where
+  pub asked : IsAsked request bytes problem
+  pub given : IsAfter (needed_of problem) numbers request.after after
+
+-- that stands, and there is not room for the numbers of one solution
 pub record HasNoRoom (request : PathRequest) (bytes numbers : List ℕ) (room : ℕ) : Type 0 where
   pub problem : Problem
-  pub asked : IsAsked request bytes problem
   pub after : Option (List Placement)
-  pub given : IsAfter (needed_of problem) numbers request.after after
+  pub asks : AsksAfter request bytes numbers problem after
   pub short : room < 4 * needed_of problem
 
--- there is room for the numbers of one solution
+-- that stands, and there is room for them
 pub record HasRoom (request : PathRequest) (bytes numbers : List ℕ) (room : ℕ) : Type 0 where
   pub problem : Problem
-  pub asked : IsAsked request bytes problem
   pub after : Option (List Placement)
-  pub given : IsAfter (needed_of problem) numbers request.after after
+  pub asks : AsksAfter request bytes numbers problem after
   pub enough : 4 * needed_of problem ≤ room

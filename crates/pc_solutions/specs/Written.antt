@@ -11,7 +11,7 @@ use Rattle.enumerate.specs.ViewOf.{solutions}
 use Rattle.enumerate.specs.Work.{pairs}
 use Rattle.pc_settings.specs.Request.{PathRequest}
 use Rattle.pc_path.specs.Work.{IsSearchOf}
-use Rattle.pc_solutions.specs.Asked.{IsAfter, IsAsked}
+use Rattle.pc_solutions.specs.Asked.{AsksAfter}
 
 -- how many solutions of so many placements may be written: as many as the limit allows and the room holds whole
 abbrev pub most_written : (limit room needed : ℕ) → ℕ
@@ -32,9 +32,8 @@ pub record IsStepWork (problem : Problem) (after : Option (List Placement)) (seq
 pub record WritesSolutions (request : PathRequest) (bytes numbers : List ℕ) (room : ℕ) (written : List ℕ) (count : ℕ)
     (ended : Bool) (floods : ℕ) : Type 0 where
   pub problem : Problem
-  pub asked : IsAsked request bytes problem
   pub after : Option (List Placement)
-  pub given : IsAfter (needed_of problem) numbers request.after after
+  pub asks : AsksAfter request bytes numbers problem after
   pub fits : 4 * needed_of problem ≤ room
   pub sequences : List (List Placement)
   pub list : IsList (record { problem = problem; queue = None; bound = after }) sequences

@@ -9,7 +9,7 @@ use Rattle.enumerate.specs.ViewOf.{solutions}
 use Rattle.pc_settings.specs.Views.{path_view}
 use Rattle.pc_path.specs.Work.{IsSearchOf}
 use Rattle.pc_solutions.specs.Written.{most_written}
-use Rattle.pc_solutions.proofs.Given.{given_needed}
+use Rattle.pc_solutions.proofs.Given.{asks_after}
 use Rattle.pc_solutions.proofs.Room.{all_fit, most_fit}
 use Rattle.pc_solutions.proofs.solutions.write_solutions.Goals as goal
 
@@ -23,27 +23,23 @@ returns-in_err-after-clause-no_sequence g c = λ is. record {
 
 pub returns-then-placements-from-clause-no_room : goal.returns-then-placements-from-clause-no_room
 returns-then-placements-from-clause-no_room g c = λ is.
-    let text = (path_view c.args.settings.now).after in
     let problem = c.in_ok-listing.listing.problem in
     let needed = c.needed-needed.ensures in
     record {
       problem = problem;
-      asked = c.in_ok-listing.ensures.asked;
       after = items_of c.in_ok-after.after;
-      given = given_needed c.needed-needed.result (needed_of problem) c.args.after.now text (items_of c.in_ok-listing.listing.after) (items_of c.in_ok-after.after) needed c.in_ok-listing.ensures.after c.in_ok-after.ensures.after;
+      asks = asks_after c.needed-needed.result (path_view c.args.settings.now) c.args.bytes.now c.args.after.now problem (items_of c.in_ok-listing.listing.after) (items_of c.in_ok-after.after) needed c.in_ok-listing.ensures.asked c.in_ok-listing.ensures.after c.in_ok-after.ensures.after;
       short = omega (arith, c.if-placements-from.true, needed, c.from.ensures);
     }
 
 pub returns-in-Err-clause-memory : goal.returns-in-Err-clause-memory
 returns-in-Err-clause-memory g c = λ is.
-    let text = (path_view c.args.settings.now).after in
     let problem = c.in_ok-listing.listing.problem in
     let needed = c.needed-needed.ensures in
     inr (record {
       problem = problem;
-      asked = c.in_ok-listing.ensures.asked;
       after = items_of c.in_ok-after.after;
-      given = given_needed c.needed-needed.result (needed_of problem) c.args.after.now text (items_of c.in_ok-listing.listing.after) (items_of c.in_ok-after.after) needed c.in_ok-listing.ensures.after c.in_ok-after.ensures.after;
+      asks = asks_after c.needed-needed.result (path_view c.args.settings.now) c.args.bytes.now c.args.after.now problem (items_of c.in_ok-listing.listing.after) (items_of c.in_ok-after.after) needed c.in_ok-listing.ensures.asked c.in_ok-listing.ensures.after c.in_ok-after.ensures.after;
       enough = omega (arith, c.if-placements-from.false, needed, c.from.ensures);
     })
 
@@ -60,7 +56,6 @@ returns-clause-within g c =
 
 pub returns-clause-written : goal.returns-clause-written
 returns-clause-written g c =
-    let text = (path_view c.args.settings.now).after in
     let problem = c.in_ok-listing.listing.problem in
     let needed = c.needed-needed.ensures in
     let search = c.in-Ok.search in
@@ -72,9 +67,8 @@ returns-clause-written g c =
     let most = c.most_written-most.ensures ∙ ap (most_written limit room) needed in
     record {
       problem = problem;
-      asked = c.in_ok-listing.ensures.asked;
       after = after;
-      given = given_needed c.needed-needed.result (needed_of problem) c.args.after.now text (items_of c.in_ok-listing.listing.after) after needed c.in_ok-listing.ensures.after c.in_ok-after.ensures.after;
+      asks = asks_after c.needed-needed.result (path_view c.args.settings.now) c.args.bytes.now c.args.after.now problem (items_of c.in_ok-listing.listing.after) after needed c.in_ok-listing.ensures.asked c.in_ok-listing.ensures.after c.in_ok-after.ensures.after;
       fits = omega (arith, c.if-placements-from.false, needed, c.from.ensures);
       sequences = solutions search;
       list = subst (λ v. IsList v (solutions search)) c.in-Ok.ensures.view c.in-Ok.ensures.list;
