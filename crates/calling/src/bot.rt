@@ -56,7 +56,7 @@ pub fn first_move(alloc: Global, problem: Problem) -> Result<Option<KeyedPlaceme
 }
 
 /// The first move for a field, a height and one queue, with hold and nothing held, soft drop, and the offsets of the
-/// Super Rotation System. A problem that is not fit is refused by its first fault. The other refusal is that memory
+/// Super Rotation System. A problem that is not fit is refused by its first fault, and a fit one only if memory
 /// runs out.
 pub fn first_move_of(
     alloc: Global,

@@ -30,8 +30,8 @@ fn page_of(fault: EncodeFault) -> u32
 }
 
 /// The pages of a fumen text, of version 110 or 115, as a text of version 115. A text that can't be read is refused by
-/// its first fault. One that can be read is refused only for a comment that grows too long. The other refusal is that
-/// memory runs out.
+/// its first fault, and one that can be by a comment that grows too long. The only other refusal is that memory runs
+/// out.
 pub fn as_v115(alloc: Global, text: &[u8]) -> Result<Vec<u8>, Refused<RewriteFault>>
     ensures text { IfOk result (λ again. IsRewritten text.now again.items) }
     ensures fault { IfErr result (IsRewriteFault text.now) }
