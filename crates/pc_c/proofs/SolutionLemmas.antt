@@ -42,7 +42,7 @@ module _ (words : List (List ℕ)) (input : List ℕ) (request : PathRequest)
       → OnErr result (after ≡ before) → OnErr result (new ≡ old)
       → IsPathAnswer words input numbers before after (new - old) (answer_of result)
   path_answered numbers before after old new (Ok w) writes fits rest faulty unsequenced roomless kept idle =
-      (asked writes.asked.none writes, fits, rest)
+      (asked writes.asks.asked.none writes, fits, rest)
   path_answered numbers before after old new (Err (refusals.Fault fault)) writes fits rest faulty unsequenced roomless kept idle =
       ((faulty_asked path is_path request refl words input same reads bytes is given within fault (faulty fault refl), none_added old new idle), kept)
   path_answered numbers before after old new (Err NoSequence) writes fits rest faulty unsequenced roomless kept idle =
@@ -50,7 +50,7 @@ module _ (words : List (List ℕ)) (input : List ℕ) (request : PathRequest)
       ((asked has.asked.none has, none_added old new idle), kept)
   path_answered numbers before after old new (Err NoRoom) writes fits rest faulty unsequenced roomless kept idle =
       let has = roomless refl in
-      ((asked has.asked.none has, none_added old new idle), kept)
+      ((asked has.asks.asked.none has, none_added old new idle), kept)
   path_answered numbers before after old new (Err NoMemory) writes fits rest faulty unsequenced roomless kept idle =
       ((tt, none_added old new idle), kept)
 
