@@ -1,6 +1,6 @@
 -- The hands of queues, one after the other, and how a hand is read from two lists.
 use Rattle.std.proofs.Common.{◌≡◌, ℕ, ◌+◌, ◌-◌, ◌*◌, ◌/◌, ◌%◌, ◌^◌, ◌<◌, ◌≤◌, List, [], ◌∷◌, ◌++◌, Option, length, length-append, get_or, refl, ap, sym, ◌∙◌, arith, inl, inr}
-use Rattle.std.proofs.Math.Nat.{add-mul, div-lt_iff_lt-mul, mod-lt, mul-one, one-mul, zero-mul}
+use Rattle.std.proofs.Math.Nat.{add-mul, mod-lt, mul-one, one-mul, zero-mul}
 use Rattle.std.proofs.lemmas.Bool.{cases_lt}
 use Rattle.std.proofs.lemmas.List.{get_or_append_left, get_or_push, get_or_read_under}
 use Rattle.srs.specs.declared.piece.Piece.{Piece}

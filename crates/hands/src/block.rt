@@ -1,6 +1,5 @@
 // Hands in blocks: those of one block differ in their last two pieces alone.
-ghost use Rattle.std.specs.Prelude.{◌≡◌, ℕ, ◌*◌, ◌+◌, ◌^◌, ◌<◌, ◌≤◌, ◌/◌, ◌%◌, ◌==◌, ◌&&◌, nat_lt, false, true};
-ghost use Rattle.srs.specs.Piece.{piece_code};
+ghost use Rattle.std.specs.Prelude.{◌≡◌, ℕ, ◌*◌, ◌+◌, ◌^◌, ◌<◌, ◌≤◌, ◌/◌, ◌%◌, ◌==◌, ◌&&◌, nat_lt, false};
 ghost use Rattle.lane_board.specs.Lanes.{has_bit};
 ghost use Rattle.hands.specs.BlockHands.{AreHands, in_block};
 ghost use Rattle.hands.specs.Blocks.{ending_of, key_of};

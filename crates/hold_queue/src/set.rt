@@ -37,8 +37,8 @@ fn drawn_holding(pattern: &Pattern, held: Option<Piece>, number: u8) -> Option<D
 }
 
 impl QueueSet {
-    ghost use Rattle.std.specs.Prelude.{List, [], ◌∷◌, ◌++◌};
-    ghost use Rattle.hold_queue.specs.QueueSet.{QueuesInPlay, queues_in_play, singles, QueuesPermit, queues_permit};
+    ghost use Rattle.std.specs.Prelude.{[], ◌∷◌, ◌++◌};
+    ghost use Rattle.hold_queue.specs.QueueSet.{queues_in_play, singles, QueuesPermit, queues_permit};
     ghost use Rattle.hold_queue.specs.Supply.{supplies, supply_of};
 
     /// The queues of a pattern, with nothing played.

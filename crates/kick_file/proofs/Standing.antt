@@ -20,7 +20,7 @@ use Rattle.kick_file.specs.declared.parser_state.ParserState.TheVariants.{Beginn
 use Rattle.kick_file.specs.Form.{Entry, SpellsEntry, signed_digit, offset_form, offsets_form, turned_of, table_with_entry, table_of_entries}
 use Rattle.srs.specs.Forms.{IsFront}
 use Rattle.kick_file.specs.Faults.{SpellsBefore, SpellsSome}
-use Rattle.kick_file.specs.Reading.{is_small_number, digit_of, number_with_digit}
+use Rattle.kick_file.specs.Reading.{is_small_number, number_with_digit}
 use Rattle.kick_file.proofs.Entries.{HasFive, put_from, put_five}
 use Rattle.kick_file.proofs.SpelledIsRead.{srs_five}
 use Rattle.kick_file.proofs.ReadIsSpelled.{InEntry, longer, part_front, one_more, before_five, entry_whole, ended_offsets, offsets_split, all_small, origin}

@@ -58,13 +58,7 @@ fn hard_board<const N: usize, const M: usize>(
 pub(crate) fn has_own_cells(piece: Piece, rotation: Rotation) -> bool
     ensures { result ≡ has_own_cells piece rotation }
 {
-    match (piece, rotation) {
-        (_, Rotation::Spawn) => true,
-        (Piece::O, _) => false,
-        (_, Rotation::Right) => true,
-        (Piece::I | Piece::S | Piece::Z, _) => false,
-        _ => true,
-    }
+    canonical_of(piece, rotation).index() == rotation.index()
 }
 
 /// The pivots of lane states, below row `M`.

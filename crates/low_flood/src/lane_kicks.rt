@@ -6,7 +6,7 @@ ghost use Rattle.srs.specs.Kick.{srs_table, kick_in, offset_in};
 ghost use Rattle.moves.specs.Lanes.{lowest};
 ghost use Rattle.low_flood.specs.LaneTurns.{lane_move};
 
-use srs::{Piece, Rotation};
+use srs::{Piece, Rotation, canonical_change};
 
 /// How far test 1 to 5 of a turn moves a lane state: by columns of its canonical pivot, and by lanes.
 #[inline(always)]
@@ -62,12 +62,7 @@ fn canonical_columns(piece: Piece, rotation: Rotation) -> i8
     ensures low { minus 1 ≤ℤ result }
     ensures high { result ≤ℤ pos 0 }
 {
-    match (piece, rotation) {
-        (Piece::I, Rotation::Reverse) => -1,
-        (Piece::O, Rotation::Reverse | Rotation::Left) => -1,
-        (Piece::S | Piece::Z, Rotation::Left) => -1,
-        _ => 0,
-    }
+    canonical_change(piece, rotation).1.0
 }
 
 /// How many rows the lowest cell lies above the pivot.

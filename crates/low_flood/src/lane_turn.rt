@@ -11,7 +11,7 @@ ghost use Rattle.low_flood.specs.LaneTurns.{arrivals};
 use crate::lane_kicks::lane_kick;
 use crate::lane_map::inside_lanes;
 use lane_board::LaneBoard;
-use srs::{Piece, Rotation};
+use srs::{Piece, Rotation, canonical_change};
 
 /// The lane states that a quarter turn leads to, each by the first test that succeeds. `free` are the free ones of the
 /// new rotation.
@@ -108,10 +108,5 @@ fn lanes_staying<const N: usize>(rows: i8) -> u8
 pub(crate) fn canonical_of(piece: Piece, rotation: Rotation) -> Rotation
     ensures { result ≡ canonical_rotation piece rotation }
 {
-    match (piece, rotation) {
-        (Piece::O, _) => Rotation::Spawn,
-        (Piece::I | Piece::S | Piece::Z, Rotation::Reverse) => Rotation::Spawn,
-        (Piece::I | Piece::S | Piece::Z, Rotation::Left) => Rotation::Right,
-        _ => rotation,
-    }
+    canonical_change(piece, rotation).0
 }

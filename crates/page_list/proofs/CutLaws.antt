@@ -1,5 +1,5 @@
 -- Texts that are cut at a byte.
-use Rattle.std.proofs.Common.{◌≡◌, ℕ, ◌+◌, ◌<◌, ◌==◌, true, false, List, [], ◌∷◌, ◌++◌, length, length-append, take, drop, get_or, position, take-append-drop, get_or-take, length-take, drop-cons, Option, Some, refl, sym, ap, subst, ◌∙◌, nat_lt, None, ltb-true, lt-ltb, eq-eqb, eqb-true, if◌then◌else◌, suc, arith, rules}
+use Rattle.std.proofs.Common.{◌≡◌, ℕ, ◌+◌, ◌<◌, ◌==◌, true, false, List, [], ◌∷◌, ◌++◌, length, length-append, take, drop, get_or, position, take-append-drop, get_or-take, length-take, drop-cons, Option, Some, refl, sym, ap, subst, ◌∙◌, nat_lt, ltb-true, lt-ltb, eq-eqb, eqb-true, if◌then◌else◌, suc, arith, rules}
 use Rattle.std.specs.Prelude.{All, not}
 use Rattle.std.specs.List.{list_all, position_or_len}
 use Rattle.std.proofs.lemmas.List.{take_at, drop_at}
@@ -10,7 +10,7 @@ use Rattle.std.proofs.lemmas.Option.{none-some, option_and_then_some, same_Some}
 use Rattle.std.proofs.lemmas.Bool.{cases_Bool, and_parts, not-true}
 use Rattle.std.proofs.lemmas.List.Sums.{AllPass-from_list_all}
 use Rattle.page_list.specs.CellsReading.{cut_at}
-use Rattle.page_list.specs.LineReading.{are_fields, four_in, is_field}
+use Rattle.page_list.specs.LineReading.{four_in, is_field}
 use Rattle.page_list.specs.Divided.{Four, IsField, IsDivided}
 
 place : (byte : ℕ) (front behind : List ℕ) → All (λ c. (c == byte) ≡ false) front → position_or_len (λ c. c == byte) (front ++ byte ∷ behind) ≡ length front

@@ -1,5 +1,5 @@
 -- The laws of writes that follow each other.
-use Rattle.std.specs.Prelude.{◌≡◌, ℕ, ◌+◌, ◌<◌, Option, Some, None, Result, Ok, Err, List, [], ◌++◌, length, take, drop, IsOk, IsErr, refl}
+use Rattle.std.specs.Prelude.{◌≡◌, ℕ, ◌+◌, ◌<◌, Option, Some, None, Result, Ok, Err, List, [], ◌++◌, length, take, drop, IsErr, refl}
 use Rattle.std.specs.List.{flat_map}
 use Rattle.std.proofs.Common.{sym, ap, subst, ◌∙◌, append_assoc, append-nil, take-append-drop, get_or}
 use Rattle.std.proofs.lemmas.List.{at_drop_more}
@@ -58,11 +58,6 @@ stops rest so_far divided part =
     let parts = divided ∙ ap (λ l. l ++ rest) part.up_to.divided ∙ append_assoc part.up_to.front part.rest rest in
     is_front (goes_on so_far parts part.up_to.grown)
 
--- a front of a piece is a front of a whole that begins with it
-pub front_of_more : {old new : Option (List ℕ)} {whole piece : List ℕ} (rest : List ℕ) → whole ≡ piece ++ rest
-    → GrowsByFront old new piece → GrowsByFront old new whole
-front_of_more {old} {whole = whole} rest divided part = stops rest (begins old whole) divided part
-
 -- the first n of these bytes were written, to a sink that tells its bytes
 pub front_taken : {old new bytes : List ℕ} (n : ℕ) → new ≡ old ++ take n bytes
     → GrowsByFront (Some old) (Some new) bytes
@@ -96,12 +91,6 @@ last_call {piece = piece} {result = Ok x} so_far written =
     record { done = ends (goes_on so_far (sym (append-nil piece)) written.done); failed = tt }
 last_call {piece = piece} {result = Err e} so_far written =
     record { done = tt; failed = stops [] so_far (sym (append-nil piece)) written.failed }
-
--- the answer is no error, after all was written
-pub at_ok : {T E : Type 0} {old new : Option (List ℕ)} {whole : List ℕ} {result : Result T E} → IsOk result
-    → Grows old new whole → WritesAll old new result whole
-at_ok {result = Ok x} ok grown = record { done = grown; failed = tt }
-at_ok {result = Err e} ok grown = cc
 
 -- the answer is an error, after a front was written
 pub at_err : {T E : Type 0} {old new : Option (List ℕ)} {whole : List ℕ} {result : Result T E} → IsErr result

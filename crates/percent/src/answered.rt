@@ -1,5 +1,5 @@
 // The hands that are good at a position, from kept answers or by searching every position that a piece leads to.
-ghost use Rattle.std.specs.Prelude.{◌≡◌, ℕ, ◌≤◌, ◌+◌, ◌&&◌, ◌==◌, not, IfOk};
+ghost use Rattle.std.specs.Prelude.{◌≡◌, ℕ, ◌≤◌, ◌&&◌, ◌==◌, not, IfOk};
 ghost use Rattle.hands.specs.HandSets.{has};
 ghost use Rattle.well.specs.Well.{filled};
 ghost use Rattle.percent.specs.Children.{IsChild};

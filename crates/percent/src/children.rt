@@ -1,5 +1,5 @@
 // The positions that a piece leads to.
-ghost use Rattle.std.specs.Prelude.{◌≡◌, ◌≤◌, ◌+◌, ◌-◌, ℕ, IsTrue, IfOk, IfSome, All, true, false};
+ghost use Rattle.std.specs.Prelude.{◌≡◌, ◌+◌, ◌-◌, ℕ, IsTrue, IfOk, IfSome, All, true, false};
 ghost use Rattle.well.specs.Well.{filled};
 ghost use Rattle.well.specs.Lock.{locked, rows_removed};
 ghost use Rattle.well.specs.LockLaws.{is_below};

@@ -1,5 +1,5 @@
 // Leaving out hands that no listed tiling serves, and tilings that serve no hand.
-ghost use Rattle.std.specs.Prelude.{◌≡◌, ◌≤◌, ◌<◌, ℕ, [], IfOk, Some, false, true, length, slice_get, slice_index, slice_index_or};
+ghost use Rattle.std.specs.Prelude.{◌≡◌, ◌≤◌, ◌<◌, ℕ, IfOk, Some, false, true, length, slice_get, slice_index_or};
 ghost use Rattle.std.specs.List.{Contains};
 ghost use Rattle.hands.specs.Numbers.{has_number};
 ghost use Rattle.tiled_pieces.specs.declared.listed.ListedTiling.{ListedTiling};

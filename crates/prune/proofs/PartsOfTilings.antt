@@ -1,8 +1,8 @@
 -- A tiling with one part more or fewer, and the test of rows that rise.
-use Rattle.std.proofs.Common.{◌≡◌, ℕ, suc, ◌+◌, ◌-◌, ◌<◌, ◌≤◌, Bool, true, false, not, cond, ◌&&◌, ◌||◌, ◌==◌, List, [], ◌∷◌, length, ℤ, nat_lt, refl, ap, ◌∙◌, inl, inr, arith, rules}
-use Rattle.std.specs.Prelude.{◌↔◌, All, int_lt}
+use Rattle.std.proofs.Common.{◌≡◌, ℕ, suc, ◌+◌, ◌-◌, ◌≤◌, true, false, not, cond, ◌&&◌, ◌==◌, List, [], ◌∷◌, length, refl, ap, ◌∙◌, inl, inr, arith, rules}
+use Rattle.std.specs.Prelude.{◌↔◌, All}
 use Rattle.std.specs.List.{list_all}
-use Rattle.std.proofs.lemmas.Bool.{cases_Bool, cond-true, cond-false, true_from_ne_false, and_right, ltb-true, eq-eqb, not_from_true}
+use Rattle.std.proofs.lemmas.Bool.{cases_Bool, cond-true, cond-false, true_from_ne_false, and_right, eq-eqb, not_from_true}
 use Rattle.std.proofs.lemmas.List.Elements.{All-cons, All-head, All-tail}
 use Rattle.std.proofs.lemmas.List.Sums.{sum_by-cons}
 use Rattle.std.proofs.Math.Bool.{and-true}
@@ -10,7 +10,7 @@ use Rattle.srs.specs.declared.piece.Piece.{Piece}
 use Rattle.srs.specs.Piece.{piece_code}
 use Rattle.srs.specs.Cells.{Cell}
 use Rattle.srs.specs.SameCells.{is_among}
-use Rattle.srs.proofs.CallerLemmas.{has_cell-head, is_among-all, list_all-from_is_among, implied}
+use Rattle.srs.proofs.CallerLemmas.{has_cell-head, is_among-all, list_all-from_is_among}
 use Rattle.lane_board.specs.Field.{Field, intersection, rows_below}
 use Rattle.prune.specs.Tiling.{Part, IsGeneralized, is_empty_below, covers, parts_of, Tiling, Supply}
 use Rattle.prune.specs.Laws.{with_one}

@@ -35,7 +35,7 @@ pub struct Pattern {
 }
 
 impl Pattern {
-    ghost use Rattle.std.specs.Prelude.{IfOk, IfErr, Ok, Err, Some, slice_get, List, [], ◌++◌, drop, map};
+    ghost use Rattle.std.specs.Prelude.{IfOk, IfErr, Ok, Err, Some, slice_get, List, drop, map};
     ghost use Rattle.queue_pattern.specs.Builder.{Holds};
     ghost use Rattle.queue_pattern.specs.Grammar.{elements, limited, set_of};
     ghost use Rattle.queue_pattern.specs.Pattern.{elements_of};

@@ -22,4 +22,4 @@ pub use placement::Placement;
 pub use rotation::Rotation;
 pub use rules::Rules;
 pub use shapes::{cells, is_inside, shape};
-pub use symmetry::canonical;
+pub use symmetry::{canonical, canonical_change};

@@ -1,6 +1,6 @@
 // Placements with the same cells, and the canonical one among them.
-ghost use Rattle.std.specs.Prelude.{◌≡◌, IsTrue};
-ghost use Rattle.srs.specs.Cells.{is_inside_of, pivot_of, moved};
+ghost use Rattle.std.specs.Prelude.{◌≡◌, ◌≤ℤ◌, IsTrue, pos};
+ghost use Rattle.srs.specs.Cells.{is_inside_of, minus, pivot_of, moved};
 ghost use Rattle.srs.specs.SameCells.{HasSameCells};
 ghost use Rattle.srs.specs.Canonical.{IsCanonical, canonical_rotation, canonical_move};
 
@@ -32,7 +32,7 @@ fn moved_pivot(placement: &Placement) -> Placement
     ensures pivot { pivot_of result ≡ moved (pivot_of placement.now)
         (canonical_move placement.now.piece placement.now.rotation) }
 {
-    let (rotation, change) = earliest(placement.piece, placement.rotation);
+    let (rotation, change) = canonical_change(placement.piece, placement.rotation);
     let (x, y) = cell_at((placement.x as i8, placement.y as i8), change);
     Placement {
         piece: placement.piece,
@@ -42,10 +42,14 @@ fn moved_pivot(placement: &Placement) -> Placement
     }
 }
 
-/// The earliest rotation in which the piece can have the cells of this one, and how far its pivot moves for that.
-fn earliest(piece: Piece, rotation: Rotation) -> (Rotation, (i8, i8))
+/// The earliest rotation in which the piece can have the cells of this one, and how far its pivot moves for that: at
+/// most one column to the left.
+#[inline(always)]
+pub fn canonical_change(piece: Piece, rotation: Rotation) -> (Rotation, (i8, i8))
     ensures rotation { result.0 ≡ canonical_rotation piece rotation }
     ensures pivot { result.1 ≡ canonical_move piece rotation }
+    ensures left { minus 1 ≤ℤ result.1.0 }
+    ensures right { result.1.0 ≤ℤ pos 0 }
 {
     match (piece, rotation) {
         (Piece::I, Rotation::Reverse) => (Rotation::Spawn, (-1, 0)),

@@ -18,8 +18,7 @@ pub(crate) struct Listing {
 }
 
 impl Listing {
-    ghost use Rattle.std.specs.Prelude.{◌≡◌, IsTrue, List, [], false};
-    ghost use Rattle.tiled_pieces.specs.TilingLists.{LaidPiece};
+    ghost use Rattle.std.specs.Prelude.{◌≡◌, IsTrue, [], false};
     ghost use Rattle.tiled_pieces.specs.Listings.{Adds, path_of};
 
     /// No tiling yet. If it is ordered, pieces have to keep to an order of rows.

@@ -21,7 +21,7 @@ pub(crate) struct Path {
 }
 
 impl Path {
-    ghost use Rattle.std.specs.Prelude.{Bool, true, false, length};
+    ghost use Rattle.std.specs.Prelude.{false};
     ghost use Rattle.tiled_pieces.specs.Listings.{path_of};
 
     /// No piece.

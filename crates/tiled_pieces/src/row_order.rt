@@ -1,5 +1,5 @@
 // Which rows go before which.
-ghost use Rattle.std.specs.Prelude.{ℕ, ◌≡◌, ◌<◌, ◌≤◌, ◌+◌, ◌*◌, ◌&&◌, ◌||◌, ◌==◌, IsTrue, List, MatchOption, ◌∷◌};
+ghost use Rattle.std.specs.Prelude.{ℕ, ◌≡◌, ◌<◌, ◌+◌, ◌*◌, ◌&&◌, ◌==◌, IsTrue, List, MatchOption, ◌∷◌};
 ghost use Rattle.lane_board.specs.Lanes.{has_bit};
 ghost use Rattle.empty_cells.specs.Empties.{empty_cells};
 ghost use Rattle.srs.specs.declared.piece.Piece.{Piece};

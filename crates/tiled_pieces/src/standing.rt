@@ -1,6 +1,5 @@
 // The pieces of one kind in the tilings of some lists.
 ghost use Rattle.std.specs.Prelude.{◌≡◌, ◌<◌};
-ghost use Rattle.std.specs.List.{Contains};
 
 use crate::list::TilingList;
 use crate::listed::{ListedTiling, MOST_PIECES};
@@ -29,9 +28,8 @@ pub struct StandingPieces {
 const ROOM: usize = 16;
 
 impl StandingPieces {
-    ghost use Rattle.std.specs.Prelude.{◌↔◌, ◌⊎◌, ℕ, ◌≤◌, IfOk, IsTrue, OnOk, [], true};
+    ghost use Rattle.std.specs.Prelude.{◌↔◌, ℕ, IfOk, IsTrue, OnOk, [], true};
     ghost use Rattle.empty_cells.specs.Empties.{empty_cells};
-    ghost use Rattle.lane_board.specs.Field.{Field};
     ghost use Rattle.lane_board.specs.Lanes.{has_bit};
     ghost use Rattle.tiled_pieces.specs.Standing.{GrowsBy, Stands};
     ghost use Rattle.tiled_pieces.specs.TilingLists.{HasPiece, SomeHas};

@@ -1,5 +1,5 @@
 // Sets of cells in columns 0 to 9 and rows 0 to 7 as numbers. Bit `8 * column + row` stands for a cell.
-ghost use Rattle.std.specs.Prelude.{ℕ, ◌≡◌, ◌≤◌, ◌<◌, ◌+◌, ◌*◌, ◌^◌, ◌&&◌, ◌==◌, not, nat_lt};
+ghost use Rattle.std.specs.Prelude.{ℕ, ◌≡◌, ◌≤◌, ◌<◌, ◌+◌, ◌*◌, ◌^◌, ◌&&◌, not, nat_lt};
 ghost use Rattle.lane_board.specs.Lanes.{has_bit};
 ghost use Rattle.tiled_pieces.specs.Words.{
   field_of,

@@ -9,7 +9,6 @@ mod RestLemmas
 mod OffsetLemmas
 mod OpenedLemmas
 mod StartLemmas
-mod FourLemmas
 mod KeyLemmas
 mod FoldLemmas
 mod PlaceLemmas

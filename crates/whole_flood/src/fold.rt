@@ -1,11 +1,10 @@
 // Resting states as canonical placements.
-ghost use Rattle.std.specs.Prelude.{◌≡◌, ◌≤◌, pos, ◌-ℤ◌};
-ghost use Rattle.srs.specs.Canonical.{canonical_rotation, canonical_move};
+ghost use Rattle.std.specs.Prelude.{◌≡◌};
 ghost use Rattle.place_sets.specs.States.{states_of};
 ghost use Rattle.whole_flood.specs.Folded.{folded_with, folded};
 
 use place_sets::Pivots;
-use srs::{Piece, Placement, Rotation, canonical};
+use srs::{Piece, Rotation, canonical_change};
 
 /// The canonical placements that have the cells of these states.
 #[tactic(auto, unfolding(crate::specs::Folded::folded))]
@@ -32,29 +31,4 @@ fn folded_with<const N: usize>(
     let (to, (dx, dy)) = canonical_change(piece, rotation);
     let moved = states.board(rotation).moved(dx, dy);
     held.with(to, &held.board(to).or(&moved))
-}
-
-/// The earliest rotation in which the piece can have the cells of this one, and how far its pivot moves for that.
-fn canonical_change(piece: Piece, rotation: Rotation) -> (Rotation, (i8, i8))
-    ensures rotation { result.0 ≡ canonical_rotation piece rotation }
-    ensures pivot { result.1 ≡ canonical_move piece rotation }
-{
-    let earliest = canonical(&Placement {
-        piece,
-        rotation,
-        x: 4,
-        y: 4,
-    });
-    (
-        earliest.rotation,
-        (less_four(earliest.x), less_four(earliest.y)),
-    )
-}
-
-/// The number minus four.
-fn less_four(number: u8) -> i8
-    requires { number ≤ 8 }
-    ensures { result ≡ pos number -ℤ pos 4 }
-{
-    number as i8 - 4
 }

@@ -1,5 +1,5 @@
 -- The bytes so far were taken, at most one more than the limit, and no read failed.
-use Rattle.std.proofs.Common.{◌≡◌, ◌+◌, ◌-◌, ◌≤◌, vec_len}
+use Rattle.std.proofs.Common.{◌+◌, ◌-◌, ◌≤◌, vec_len}
 use Rattle.pc_outside.specs.CountLaws.{NoneFailed}
 use Rattle.pc_outside.specs.Reads.{TakesBytes}
 use Rattle.pc_outside.proofs.reading.read_all.Given as goal
