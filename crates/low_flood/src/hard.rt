@@ -11,6 +11,7 @@ ghost use Rattle.low_flood.specs.LanePlaces.{IsCut, lane_pivots, has_own_cells, 
 
 use crate::lane_kicks::lowest_row;
 use crate::lane_map::{free_lanes, resting_lanes, sky_board};
+use crate::lane_turn::canonical_of;
 use lane_board::LaneBoard;
 use place_sets::Pivots;
 use srs::{Piece, Rotation};

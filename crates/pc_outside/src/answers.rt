@@ -17,7 +17,7 @@ pub enum Refused<F> {
     NoMemory,
 }
 
-/// A read or write failed, and its source or sink counted one more fault.
+/// A read or write failed, and the count of faults of its source or sink rose.
 #[derive(Clone, Copy, Debug, PartialEq, Eq)]
 pub struct Failed;
 
