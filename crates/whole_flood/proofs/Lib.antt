@@ -6,7 +6,6 @@ mod SettleLemmas
 mod FloodLemmas
 mod KickLemmas
 mod RestLemmas
-mod OffsetLemmas
 mod OpenedLemmas
 mod StartLemmas
 mod KeyLemmas

@@ -1,6 +1,5 @@
 // The free states of a piece in a field.
 ghost use Rattle.std.specs.Prelude.{◌≡◌, IsTrue};
-ghost use Rattle.std.specs.List.{list_all};
 ghost use Rattle.lane_board.specs.Board.{field_of};
 ghost use Rattle.srs.specs.Cells.{shape, is_near};
 ghost use Rattle.place_sets.specs.States.{states_of};
@@ -9,7 +8,7 @@ ghost use Rattle.whole_flood.specs.Opened.{opened, opened_at, AreFreePivots};
 
 use lane_board::LaneBoard;
 use place_sets::Pivots;
-use srs::{Piece, Placement, Rotation, cells};
+use srs::{Piece, Rotation, shape};
 
 /// The states of a piece whose cells all lie in the well and are not filled. The columns and rows of the boards are
 /// those of the pivots.
@@ -38,25 +37,11 @@ fn free_pivots(filled: &LaneBoard<24>, piece: Piece, rotation: Rotation) -> Lane
 fn blank_pivots(blank: &LaneBoard<24>, piece: Piece, rotation: Rotation) -> LaneBoard<24>
     ensures { field_of result ≡ opened_at (field_of blank.now) 24 (shape piece rotation) (field_of blank.now) }
 {
-    let [a, b, c, d] = offsets(piece, rotation);
+    let [a, b, c, d] = shape(piece, rotation);
     let first = opened(blank, a, blank);
     let second = opened(blank, b, &first);
     let third = opened(blank, c, &second);
     opened(blank, d, &third)
-}
-
-/// The offsets of the four cells of a piece from its pivot, which are its cells if the pivot is in column 0 and row 0.
-#[tactic(auto, using(crate::proofs::OffsetLemmas::at_nothing, srs::proofs::CallerLemmas::shape_near))]
-fn offsets(piece: Piece, rotation: Rotation) -> [(i8, i8); 4]
-    ensures shape { result ≡ shape piece rotation }
-    ensures near { IsTrue (list_all is_near result) }
-{
-    cells(&Placement {
-        piece,
-        rotation,
-        x: 0,
-        y: 0,
-    })
 }
 
 /// The pivots among these with a blank cell at the offset.
