@@ -1,5 +1,5 @@
 -- The canonical placements that rest under an open sky are the places of a hard drop.
-use Rattle.std.proofs.Common.{◌≡◌, ◌↔◌, ℕ, ◌+◌, ◌<◌, ◌≤◌, ◌≤ℤ◌, true, pos, ◌+ℤ◌, refl, sym, ap, subst, ◌∙◌, inl, inr, arith, rules}
+use Rattle.std.proofs.Common.{◌≡◌, ◌↔◌, ℕ, ◌+◌, ◌<◌, ◌≤◌, ◌==◌, ◌≤ℤ◌, true, pos, ◌+ℤ◌, refl, sym, ap, subst, ◌∙◌, inl, inr, arith, rules}
 use Rattle.std.specs.Prelude.{neg_ℤ, Bool, false, if◌then◌else◌}
 use Rattle.std.proofs.lemmas.Int.{ints}
 use Rattle.std.proofs.lemmas.Bool.{and_parts, and_from, cases_Bool, cond-true, cond-false, false≢true}
@@ -8,8 +8,10 @@ use Rattle.srs.specs.declared.piece.Piece.{Piece}
 use Rattle.srs.specs.declared.rotation.Rotation.{Rotation}
 use Rattle.srs.specs.declared.rotation.Rotation.TheVariants.{Spawn, Right, Reverse, Left}
 use Rattle.srs.specs.declared.placement.Placement.{Placement}
+use Rattle.srs.specs.Canonical.{canonical_rotation}
 use Rattle.srs.specs.Cells.{Cell, moved, shape, pivot_of}
 use Rattle.srs.specs.Kick.{srs_table}
+use Rattle.srs.specs.Rotation.{rotation_index}
 use Rattle.srs.proofs.CallerLemmas.{IsCanonical-from_test, is_canonical-from}
 use Rattle.well.specs.Free.{is_free}
 use Rattle.moves.specs.declared.key.DropMode.TheVariants.{Hard}
@@ -34,6 +36,10 @@ pub record HasLaneState (S : Field) (s : Placement) : Type 0 where
   pub y : ℕ
   pub at : lane s ≡ pos y
   pub held : S s.x y ≡ true
+
+-- a rotation has cells of its own exactly if it is canonical
+pub own_is : (p : Piece) (r : Rotation) → has_own_cells p r ≡ (rotation_index (canonical_rotation p r) == rotation_index r)
+own_is p r = search rules
 
 pub cut_of_none : (row : ℕ) → empty_field ≡ intersection empty_field (rows_below row)
 unfolding empty_field intersection

@@ -36,7 +36,7 @@ use Rattle.low_flood.proofs.ClassLemmas.{class_lane, rests_same}
 use Rattle.place_sets.proofs.CallerLemmas.{LiesWithin}
 use Rattle.low_flood.proofs.LaneClosed.{lanes_flood}
 use Rattle.low_flood.proofs.LaneMaps.{free_lanes-exact, resting_lanes-exact, free_here}
-use Rattle.low_flood.proofs.LanePlaceLemmas.{cut_exact, lane_pivots-from, lane_pivots-to, free_within, own_within, pivots_within, resting_within}
+use Rattle.low_flood.proofs.LanePlaceLemmas.{cut_exact, lane_pivots-from, lane_pivots-to, free_within, own_is, own_within, pivots_within, resting_within}
 use Rattle.low_flood.proofs.LaneSound.{IsAt, IsSoundBoard, state_of_lane, spread_sound, union_sound, sky_sound, arrivals_sound}
 use Rattle.low_flood.proofs.LaneTurns.{free_lane, clockwise_low, anti_low, is_low_move}
 use Rattle.low_flood.proofs.SoftLemmas.{begun_grows, round_closes, sky_is_free, IsLaneStateOf, states_of_canonical-from, states_of_canonical-has, in_rotation}
@@ -45,11 +45,8 @@ pub many_rows : (n : ℕ) → IsTrue (is_lane_count n) → 8 ≤ n
 many_rows n is = leb-true 8 n (and_parts (nat_le 8 n) (nat_le n 32) (and_parts (n % 8 == 0) _ is).1).0
 
 -- a rotation with cells of its own is canonical
-own_test : (p : Piece) (r : Rotation) → (not (has_own_cells p r) || rotation_index (canonical_rotation p r) == rotation_index r) ≡ true
-own_test = each_state (λ p r. not (has_own_cells p r) || rotation_index (canonical_rotation p r) == rotation_index r) refl
-
 pub own_canonical : (p : Piece) (r : Rotation) → has_own_cells p r ≡ true → canonical_rotation p r ≡ r
-own_canonical p r own = rotation_index-injective _ r (eqb-true _ _ (subst (λ b. (not b || rotation_index (canonical_rotation p r) == rotation_index r) ≡ true) own (own_test p r)))
+own_canonical p r own = rotation_index-injective _ r (eqb-true _ _ (sym (own_is p r) ∙ own))
 
 back_clockwise : (r : Rotation) → clockwise_of (anticlockwise_of r) ≡ r
 back_clockwise r = search rules

@@ -55,6 +55,7 @@ fn hard_board<const N: usize, const M: usize>(
 }
 
 /// Whether the placements of a rotation are canonical.
+#[tactic(auto, using(crate::proofs::LanePlaceLemmas::own_is))]
 #[inline(always)]
 pub(crate) fn has_own_cells(piece: Piece, rotation: Rotation) -> bool
     ensures { result ≡ has_own_cells piece rotation }
