@@ -1,4 +1,4 @@
--- What one key does to a state, by the Super Rotation System.
+-- What one key does to a state, by a table of offsets.
 use Rattle.std.specs.Prelude.{ℕ, ◌≤ℤ◌, pos, if◌then◌else◌, Option, Some, None, List, [], ◌∷◌, map}
 use Rattle.lane_board.specs.Field.{Field}
 use Rattle.srs.specs.declared.piece.Piece.{Piece}

@@ -1,4 +1,4 @@
-// How a set of pivots turns by the tests of the Super Rotation System.
+// How a set of pivots turns, by the five tests of a table of offsets.
 ghost use Rattle.std.specs.Prelude.{◌≡◌, ◌⊎◌};
 ghost use Rattle.lane_board.specs.Board.{field_of};
 ghost use Rattle.lane_board.specs.Field.{empty_field};
