@@ -172,8 +172,7 @@ module _ (F : Field) (N : ℕ) (piece : Piece) (r : Rotation) (free : Field) (is
           let sky_q = (sky_board-exact F rows N clear fits few q y at_q free map_q bounds.1).0 on_board in
           let sky_t = sky_same F q t (found_cells q t refl refl (sym pivot.is)) sky_q in
           let by = near t in
-          let led_to = sky_is_reached F rows t clear (omega arith) sky_t (omega (arith, ints, by.low)) in
-          record { keys = led_to.keys; allowed = λ key d inside. soft_allows d; leads_there = led_to.leads_there }
+          sky_is_reached F rows t clear (omega arith) sky_t (omega (arith, ints, by.low))
 
 -- what a turn leads to from a sound board
 module _ (F : Field) (rows N : ℕ) (clear : IsClearFrom rows F) (over : rows + 2 ≤ N) (few : N ≤ 16) (piece : Piece) (from to : Rotation) (free_from free_to : Field)

@@ -7,8 +7,8 @@ pub use Rattle.moves.proofs.PlaceFree.{place-free}
 pub use Rattle.moves.proofs.PlaceTest.{is_place-decides}
 pub use Rattle.moves.proofs.RestLemmas.{rest_of-is, rest_of-only}
 pub use Rattle.moves.proofs.RestTest.{from_tests, leads-free, leads_to_rest-decides, to_tests}
-pub use Rattle.moves.proofs.SkyLemmas.{sky_free, sky_is_reached}
-pub use Rattle.moves.proofs.SoftPlaces.{leads-append, soft_allows, soft_places}
+pub use Rattle.moves.proofs.SkyLemmas.{sky_free, sky_is_reached, soft_allows}
+pub use Rattle.moves.proofs.SoftPlaces.{leads-append, soft_places}
 pub use Rattle.moves.proofs.StateLemmas.{code_below, one_state}
 pub use Rattle.moves.proofs.StepLemmas.{IsFreeState, pivot_of_free, spawned-free, step_is_finite, step_of-free}
 pub use Rattle.moves.proofs.TurnLemmas.{kick_is_short}

@@ -1,6 +1,6 @@
 -- Each state under an open sky is reached: at the spawn's height by turns and moves sideways, and from there down.
 use Rattle.std.proofs.Common.{◌≡◌, ℕ, zero, suc, ◌+◌, ◌-◌, ◌<◌, ◌≤◌, true, ℤ, pos, ◌+ℤ◌, ◌-ℤ◌, ◌≤ℤ◌, Some, ◌++◌, refl, ap, subst, ◌∙◌, arith, rules}
-use Rattle.std.specs.Prelude.{int_le}
+use Rattle.std.specs.Prelude.{IsTrue, int_le}
 use Rattle.std.proofs.lemmas.Int.{ints}
 use Rattle.std.proofs.lemmas.Bool.{and_parts, cond-true, false≢true, eqb-true}
 use Rattle.std.proofs.lemmas.List.Folds.{list_all-map}
@@ -18,13 +18,17 @@ use Rattle.std.specs.Cmp.{signed_Decides}
 use Rattle.std.specs.Ordering.{int_eq}
 use Rattle.well.specs.Free.{is_open, is_free_at, is_free}
 use Rattle.well.proofs.CallerLemmas.{open_at}
+use Rattle.moves.specs.declared.key.Key.{Key}
 use Rattle.moves.specs.declared.key.Key.TheVariants.{Down}
+use Rattle.moves.specs.declared.key.DropMode.TheVariants.{Soft}
+use Rattle.moves.specs.Keys.{allows}
 use Rattle.moves.specs.Step.{first_free, shifted, step_of}
 use Rattle.moves.specs.Leads.{spawn_of, spawned, state_after}
 use Rattle.moves.specs.Walk.{led}
 use Rattle.moves.specs.Height.{rise, upright, fits_column}
 use Rattle.moves.specs.OpenKeys.{open_led, path, repeated}
-use Rattle.moves.specs.Sky.{IsClearFrom, IsUnderSky, IsLedTo}
+use Rattle.moves.specs.Sky.{IsClearFrom, IsUnderSky}
+use Rattle.moves.specs.RestingStates.{IsKeyed}
 use Rattle.moves.proofs.TableFacts.{is_level, shape_level, paths_lead}
 use Rattle.moves.proofs.OpenLemmas.{IsOpenHeight, open_height, open_free, free_fits, open_leads}
 
@@ -85,7 +89,10 @@ module _ (F : Field) (s : Placement) (sky : IsUnderSky F s) where
       list_all-map (is_open F) (moved (pos s.x, pos (s.y + j))) (shape s.piece s.rotation)
       ∙ list_all-from_is_among (λ c. is_open F (moved (pos s.x, pos (s.y + j)) c)) (shape s.piece s.rotation) (above_open j low)
 
-pub sky_is_reached : (F : Field) (r : ℕ) (s : Placement) → IsClearFrom r F → r ≤ 18 → IsUnderSky F s → upright s ≤ℤ pos 20 → IsLedTo F s
+pub soft_allows : (key : Key) → IsTrue (allows Soft key)
+soft_allows key = search rules
+
+pub sky_is_reached : (F : Field) (r : ℕ) (s : Placement) → IsClearFrom r F → r ≤ 18 → IsUnderSky F s → upright s ≤ℤ pos 20 → IsKeyed srs_table F Soft s
 unfolding state_after
 sky_is_reached F r s clear low sky under =
     let here : (upright s +ℤ pos 0) ≤ℤ pos 20 = omega (arith, ints) in
@@ -98,5 +105,6 @@ sky_is_reached F r s clear low sky under =
     let fall = falls srs_table F s.piece s.rotation s.x s.y k (λ j within. sky_free F s sky j (omega (arith, ints))) in
     record {
       keys = path s.piece s.rotation s.x ++ repeated Down k;
+      allowed = λ key d within. soft_allows d;
       leads_there = search (rules, fold-append);
     }

@@ -1,6 +1,6 @@
 -- With soft drop the places are the resting states to which keys lead; so where keys lead to all, they are the places.
 use Rattle.std.proofs.Common.{get_or, ◌≡◌, ◌↔◌, Option, List, ◌++◌, ap, ◌∙◌, rules}
-use Rattle.std.specs.Prelude.{IsTrue, option_and_then}
+use Rattle.std.specs.Prelude.{option_and_then}
 use Rattle.std.proofs.lemmas.List.Sums.{fold-append}
 use Rattle.lane_board.specs.Field.{Field}
 use Rattle.srs.specs.declared.piece.Piece.{Piece}
@@ -10,7 +10,6 @@ use Rattle.srs.proofs.CallerLemmas.{same_cells-piece}
 use Rattle.moves.specs.declared.key.Key.{Key}
 use Rattle.moves.specs.declared.key.Key.TheVariants.{Down}
 use Rattle.moves.specs.declared.key.DropMode.TheVariants.{Soft}
-use Rattle.moves.specs.Keys.{allows}
 use Rattle.moves.specs.Leads.{spawned, state_after}
 use Rattle.moves.specs.Place.{IsPlace}
 use Rattle.moves.specs.Step.{step_of}
@@ -20,10 +19,7 @@ use Rattle.moves.proofs.RestTest.{leads-free}
 use Rattle.moves.specs.OpenKeys.{repeated}
 use Rattle.moves.specs.RestingStates.{IsResting, IsKeyed, IsRestWhere, AllRestsAreKeyed, Any}
 use Rattle.moves.proofs.AboveRest.{StandsAbove, stands_above, comes_to_rest}
-use Rattle.moves.proofs.SkyLemmas.{falls}
-
-pub soft_allows : (key : Key) → IsTrue (allows Soft key)
-soft_allows key = search rules
+use Rattle.moves.proofs.SkyLemmas.{falls, soft_allows}
 
 pub leads-append : (table : Table) (F : Field) (piece : Piece) (keys more : List Key) → state_after table F piece (keys ++ more) ≡ led (step_of table F) (state_after table F piece keys) more
 unfolding state_after

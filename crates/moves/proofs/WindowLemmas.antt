@@ -34,9 +34,9 @@ use Rattle.moves.specs.Lanes.{lowest, lane}
 use Rattle.moves.specs.Window.{is_low, low_step, IsStart, IsWindowed, IsWindowPlace}
 use Rattle.moves.proofs.TableFacts.{is_level, shape_level}
 use Rattle.moves.proofs.OpenLemmas.{all_so, natural, open_height, IsOpenHeight, free_fits}
-use Rattle.moves.proofs.SkyLemmas.{sky_is_reached, sky_free}
+use Rattle.moves.proofs.SkyLemmas.{sky_is_reached, sky_free, soft_allows}
 use Rattle.moves.proofs.AboveRest.{StandsAbove, stands_above, comes_to_rest}
-use Rattle.moves.proofs.SoftPlaces.{soft_allows, soft_places, own_rest, leads-append}
+use Rattle.moves.proofs.SoftPlaces.{soft_places, own_rest, leads-append}
 use Rattle.moves.proofs.HardLemmas.{StandsAt, stays_level, led_level}
 use Rattle.moves.proofs.HardPlaces.{hard_places}
 use Rattle.moves.proofs.LaneFacts.{lowest_near, near, rest_lane, sky_from}

@@ -1,12 +1,9 @@
 -- States above which the field is open.
-use Rattle.std.specs.Prelude.{◌≡◌, ℕ, ◌≤◌, false, true, pos, List, Some}
+use Rattle.std.specs.Prelude.{◌≡◌, ℕ, ◌≤◌, false, true, pos}
 use Rattle.lane_board.specs.Field.{Field}
 use Rattle.srs.specs.declared.placement.Placement.{Placement}
 use Rattle.srs.specs.Cells.{cells_of, is_inside_of}
 use Rattle.srs.specs.SameCells.{is_among}
-use Rattle.srs.specs.Kick.{srs_table}
-use Rattle.moves.specs.declared.key.Key.{Key}
-use Rattle.moves.specs.Leads.{state_after}
 
 -- the field has no cell in row r or above
 pub record IsClearFrom (r : ℕ) (F : Field) : Type 0 where
@@ -16,8 +13,3 @@ pub record IsClearFrom (r : ℕ) (F : Field) : Type 0 where
 pub record IsUnderSky (F : Field) (state : Placement) : Type 0 where
   pub inside : is_inside_of state ≡ true
   pub clear : (x y k : ℕ) → is_among (cells_of state) (pos x, pos y) ≡ true → y ≤ k → F x k ≡ false
-
--- some keys lead to the state from the spawn, by the Super Rotation System
-pub record IsLedTo (F : Field) (state : Placement) : Type 0 where
-  pub keys : List Key
-  pub leads_there : state_after srs_table F state.piece keys ≡ Some state

@@ -11,7 +11,7 @@ use Rattle.moves.specs.declared.key.DropMode.TheVariants.{Soft, Hard}
 use Rattle.moves.specs.Place.{IsPlace}
 use Rattle.moves.specs.Step.{step_of}
 use Rattle.moves.specs.Height.{upright}
-use Rattle.moves.specs.Sky.{IsClearFrom, IsUnderSky, IsLedTo}
+use Rattle.moves.specs.Sky.{IsClearFrom, IsUnderSky}
 use Rattle.moves.specs.RestingStates.{IsKeyed, IsRestWhere, AllRestsAreKeyed, Any}
 use Rattle.moves.specs.Window.{IsWindowPlace}
 
@@ -28,11 +28,11 @@ TurnsKeepTheHeight =
     pos (r + 2) ≤ℤ upright state → upright state ≤ℤ pos 20 →
     KeepsHeight F state Clockwise × KeepsHeight F state Anti
 
--- keys lead to each state under the sky that is no higher than the spawn
+-- with soft drop keys lead to each state under the sky that is no higher than the spawn
 abbrev pub SkyIsReached : Type 0
 SkyIsReached =
     (F : Field) (r : ℕ) (state : Placement) → IsClearFrom r F → r ≤ 18 →
-    IsUnderSky F state → upright state ≤ℤ pos 20 → IsLedTo F state
+    IsUnderSky F state → upright state ≤ℤ pos 20 → IsKeyed srs_table F Soft state
 
 -- with soft drop the places are the resting states to which keys lead
 abbrev pub PlacesAreRests : Type 0

@@ -57,7 +57,7 @@ pub fn turns_keep_the_height()
     ensures { TurnsKeepTheHeight }
 {}
 
-/// Keys lead to every state under the sky that is no higher than the spawn.
+/// With soft drop, keys lead to every state under the sky that is no higher than the spawn.
 #[tactic(auto, using(crate::proofs::SkyLemmas::sky_is_reached))]
 pub fn sky_is_reached()
     ensures { SkyIsReached }
