@@ -1,12 +1,12 @@
 -- What one key does to a state, by a table of offsets.
-use Rattle.std.specs.Prelude.{ℕ, ◌≤ℤ◌, pos, if◌then◌else◌, Option, Some, None, List, [], ◌∷◌, map}
+use Rattle.std.specs.Prelude.{◌≤ℤ◌, pos, if◌then◌else◌, Option, Some, None, List, [], ◌∷◌, map}
 use Rattle.lane_board.specs.Field.{Field}
 use Rattle.srs.specs.declared.piece.Piece.{Piece}
 use Rattle.srs.specs.declared.rotation.Rotation.{Rotation}
 use Rattle.srs.specs.declared.offset.Offset.{Offset}
 use Rattle.srs.specs.declared.placement.Placement.{Placement}
 use Rattle.srs.specs.Cells.{Cell, minus, moved, pivot_of}
-use Rattle.srs.specs.Kick.{Table, kick_in}
+use Rattle.srs.specs.Kick.{Table, kicks_of}
 use Rattle.srs.specs.Rotation.{clockwise_of, anticlockwise_of}
 use Rattle.well.specs.Free.{is_free_at}
 use Rattle.moves.specs.declared.key.Key.{Key}
@@ -30,13 +30,9 @@ pub record IsShort (change : Offset) : Type 0 where
   pub down : minus 6 ≤ℤ change.dy
   pub up : change.dy ≤ℤ pos 6
 
--- the tests of a turn, in their order
-abbrev pub tests : List ℕ
-tests = 1 ∷ 2 ∷ 3 ∷ 4 ∷ 5 ∷ []
-
 -- the pivots that the tests of a turn try
 abbrev pub kicked : Table → Placement → Rotation → List Cell
-kicked table state to = map (λ test. moved (pivot_of state) (kick_in table state.piece state.rotation to test)) tests
+kicked table state to = map (moved (pivot_of state)) (kicks_of table state.piece state.rotation to)
 
 -- the state with its pivot moved, where that is free
 unfoldable pub shifted : Field → Placement → Cell → Option Placement
