@@ -4,7 +4,7 @@
 
 ghost use Rattle.std.specs.Prelude.{◌≡◌, ◌<◌};
 ghost use Rattle.well.specs.Well.{filled};
-ghost use Rattle.moves.specs.Sky.{IsClearFrom};
+ghost use Rattle.well.specs.LockLaws.{LiesBelow};
 
 mod fields;
 
@@ -152,7 +152,7 @@ fn low_sum<L: Ledger>(
     task: Task,
     steps: &mut Steps<L>,
 ) -> u64
-    requires { IsClearFrom 8 (filled well.now) }
+    requires { LiesBelow (filled well.now) 8 }
 {
     match task.look {
         Look::First => first_sum(sum, &window_places(well, piece, task.mode, steps)),

@@ -15,6 +15,7 @@ use Rattle.srs.proofs.CallerLemmas.{canonical_pivot, found_cells, same_cells-sym
 use Rattle.well.proofs.CallerLemmas.{free_inside}
 use Rattle.srs.specs.Rotation.{clockwise_of, anticlockwise_of}
 use Rattle.well.specs.Free.{is_free_at, is_free}
+use Rattle.well.specs.LockLaws.{LiesBelow}
 use Rattle.moves.specs.declared.key.Key.{Key}
 use Rattle.moves.specs.declared.key.Key.TheVariants.{Left, Right, Down, Clockwise, Anti}
 use Rattle.moves.specs.declared.key.DropMode.TheVariants.{Soft}
@@ -22,7 +23,7 @@ use Rattle.moves.specs.Step.{first_free, shifted, turned, step_of}
 use Rattle.moves.proofs.CallerLemmas.{step_of-free, Lifts, lifts_by, shift_lifts}
 use Rattle.place_sets.specs.Shifts.{sideways, lower}
 use Rattle.place_sets.proofs.CallerLemmas.{LiesWithin, moved_to}
-use Rattle.moves.specs.Sky.{IsClearFrom, IsUnderSky}
+use Rattle.moves.specs.Sky.{IsUnderSky}
 use Rattle.moves.specs.RestingStates.{IsKeyed}
 use Rattle.moves.specs.Lanes.{lowest, lane, IsFloodBelow}
 use Rattle.low_flood.specs.SkyBoard.{IsLaneMap, sky_board}
@@ -37,7 +38,7 @@ turned-rotation : (F : Field) (s : Placement) (to : Rotation) (t : Placement) �
 unfolding turned
 turned-rotation F s to t e = (lifts_by F s.piece to (pivot_of s) (λ (c : Cell). true) (kicks_of srs_table s.piece s.rotation to) t refl e).lifts.turn
 
-module _ (F : Field) (r N : ℕ) (clear : IsClearFrom r F) (over : r + 2 ≤ N) (few : N ≤ 16) (piece : Piece) (free S : Lanes)
+module _ (F : Field) (r N : ℕ) (clear : LiesBelow F r) (over : r + 2 ≤ N) (few : N ≤ 16) (piece : Piece) (free S : Lanes)
     (is : (rotation : Rotation) → IsLaneMap F piece (canonical_rotation piece rotation) N (free rotation)) (closed : IsLanesClosed piece N free S) (lies : (rotation : Rotation) → LiesWithin (S rotation) N) where
   state_in : Rotation → ℕ → ℕ → Placement
   state_in rotation x row = record { piece = piece; rotation = rotation; x = x; y = row }

@@ -14,9 +14,10 @@ use Rattle.srs.specs.Kick.{srs_table}
 use Rattle.srs.specs.Rotation.{rotation_index}
 use Rattle.srs.proofs.CallerLemmas.{IsCanonical-from_test, is_canonical-from}
 use Rattle.well.specs.Free.{is_free}
+use Rattle.well.specs.LockLaws.{LiesBelow}
 use Rattle.moves.specs.declared.key.DropMode.TheVariants.{Hard}
 use Rattle.moves.specs.Place.{IsPlace}
-use Rattle.moves.specs.Sky.{IsClearFrom, IsUnderSky}
+use Rattle.moves.specs.Sky.{IsUnderSky}
 use Rattle.moves.specs.RestingStates.{IsResting, IsRestWhere}
 use Rattle.moves.specs.Lanes.{lowest, lane}
 use Rattle.moves.proofs.CallerLemmas.{hard_places, lowest_near, near, rest_lane, sky_free}
@@ -124,7 +125,7 @@ pub resting_within : (N : ℕ) (free S : Field) → LiesWithin S N → LiesWithi
 unfolding resting_lanes difference
 resting_within N free S lies = record { inside = λ x y held. lies.inside x y (and_parts (S x y) _ held).0 }
 
-module _ (F : Field) (r N : ℕ) (clear : IsClearFrom r F) (over : r + 2 ≤ N) (few : N ≤ 16) (lies : LiesWithin F N) (q : Placement) where
+module _ (F : Field) (r N : ℕ) (clear : LiesBelow F r) (over : r + 2 ≤ N) (few : N ≤ 16) (lies : LiesWithin F N) (q : Placement) where
   free : Field
   free = free_lanes q.piece q.rotation N F
 

@@ -13,12 +13,12 @@ use Rattle.srs.specs.Kick.{srs_table, kicks_of}
 use Rattle.srs.proofs.CallerLemmas.{canonical_pivot, found_cells}
 use Rattle.well.specs.Free.{is_free_at, is_free}
 use Rattle.well.proofs.CallerLemmas.{free_inside, free_pivot}
+use Rattle.well.specs.LockLaws.{LiesBelow}
 use Rattle.moves.specs.declared.key.Key.{Key}
 use Rattle.moves.specs.declared.key.Key.TheVariants.{Left, Right, Down}
 use Rattle.moves.specs.declared.key.DropMode.TheVariants.{Soft}
 use Rattle.moves.specs.Step.{first_free, shifted, turned, step_of}
 use Rattle.moves.proofs.CallerLemmas.{step_of-free, soft_allows, leads-append, near, sky_is_reached}
-use Rattle.moves.specs.Sky.{IsClearFrom}
 use Rattle.moves.specs.RestingStates.{IsKeyed}
 use Rattle.moves.specs.Lanes.{lowest, lane}
 use Rattle.low_flood.specs.LaneFlood.{state_column}
@@ -144,7 +144,7 @@ module _ (F : Field) (N : ℕ) (piece : Piece) (r : Rotation) (free : Field) (is
   union_sound A B a b = search (rules, or_cases, a.within.has, b.within.has, a.keyed, b.keyed)
 
   -- the states under the sky
-  pub sky_sound : (rows : ℕ) → IsClearFrom rows F → rows + 2 ≤ N → N ≤ 16 → IsWithin (sky_board piece (canonical_rotation piece r) N free) free → IsSoundBoard F piece r free (sky_board piece (canonical_rotation piece r) N free)
+  pub sky_sound : (rows : ℕ) → LiesBelow F rows → rows + 2 ≤ N → N ≤ 16 → IsWithin (sky_board piece (canonical_rotation piece r) N free) free → IsSoundBoard F piece r free (sky_board piece (canonical_rotation piece r) N free)
   unfolding moved
   sky_sound rows clear over few within = record { within = within; keyed = keyed }
     where
@@ -175,7 +175,7 @@ module _ (F : Field) (N : ℕ) (piece : Piece) (r : Rotation) (free : Field) (is
           sky_is_reached F rows t clear (omega arith) sky_t (omega (arith, ints, by.low))
 
 -- what a turn leads to from a sound board
-module _ (F : Field) (rows N : ℕ) (clear : IsClearFrom rows F) (over : rows + 2 ≤ N) (few : N ≤ 16) (piece : Piece) (from to : Rotation) (free_from free_to : Field)
+module _ (F : Field) (rows N : ℕ) (clear : LiesBelow F rows) (over : rows + 2 ≤ N) (few : N ≤ 16) (piece : Piece) (from to : Rotation) (free_from free_to : Field)
     (is_from : IsLaneMap F piece (canonical_rotation piece from) N free_from) (is_to : IsLaneMap F piece (canonical_rotation piece to) N free_to) (lies_from : LiesWithin free_from N) (lies_to : LiesWithin free_to N)
     (key : Key) (is_key : (s : Placement) → s.rotation ≡ from → step_of srs_table F s key ≡ turned srs_table F s to) (small : list_all (is_low_move piece from to) (kicks_of srs_table piece from to) ≡ true) (S : Field) (sound : IsSoundBoard F piece from free_from S) (lies : LiesWithin S N) where
   record Turned (a b : ℕ) : Type 0 where

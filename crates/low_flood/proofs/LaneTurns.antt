@@ -21,11 +21,11 @@ use Rattle.srs.specs.Rotation.{clockwise_of, anticlockwise_of}
 use Rattle.srs.proofs.CallerLemmas.{LiesAt, in_well-place, inside_cell, is_among-all, each_state, int_le-true, some_same}
 use Rattle.well.specs.Free.{is_open, is_free_at}
 use Rattle.well.proofs.CallerLemmas.{open_in_well, free_pivot}
+use Rattle.well.specs.LockLaws.{LiesBelow}
 use Rattle.moves.specs.Step.{state_at, first_free}
 use Rattle.moves.proofs.CallerLemmas.{not_some, natural, IsNatural, open_height, IsOpenHeight, open_free, free_fits, lane_near}
 use Rattle.place_sets.proofs.CallerLemmas.{LiesWithin, moved_from, moved_to, MovedFrom}
 use Rattle.moves.specs.Height.{rise, fits_column}
-use Rattle.moves.specs.Sky.{IsClearFrom}
 use Rattle.moves.specs.Lanes.{lowest, lane}
 use Rattle.low_flood.proofs.ClassLemmas.{class_lane, class_free}
 use Rattle.low_flood.specs.SkyBoard.{IsLaneMap}
@@ -57,7 +57,7 @@ unfolding moved
 inside_lane s inside =
     search (rules, (in_well-place (moved (pivot_of s) (lowest_cell (shape s.piece s.rotation))) (inside_cell s (lowest_cell (shape s.piece s.rotation)) inside (has_lowest s.piece s.rotation))), (lowest_is s.piece s.rotation))
 
-module _ (F : Field) (r N : ℕ) (clear : IsClearFrom r F) (over : r + 2 ≤ N) (piece : Piece) (to : Rotation) (free : Field) (is : IsLaneMap F piece to N free) where
+module _ (F : Field) (r N : ℕ) (clear : LiesBelow F r) (over : r + 2 ≤ N) (piece : Piece) (to : Rotation) (free : Field) (is : IsLaneMap F piece to N free) where
   pivot_at : ℤ → ℤ → Cell
   pivot_at x y = (x, y -ℤ lowest (shape piece to))
 
@@ -117,7 +117,7 @@ pub anti_low : (p : Piece) (r : Rotation) → list_all (is_low_move p r (anticlo
 unfolding is_low_move
 anti_low = each_state (λ p r. list_all (is_low_move p r (anticlockwise_of r)) (kicks_of srs_table p r (anticlockwise_of r))) refl
 
-module _ (F : Field) (r N : ℕ) (clear : IsClearFrom r F) (over : r + 2 ≤ N) (few : N ≤ 16) (piece : Piece) (from to : Rotation) (free : Field) (is : IsLaneMap F piece (canonical_rotation piece to) N free) where
+module _ (F : Field) (r N : ℕ) (clear : LiesBelow F r) (over : r + 2 ≤ N) (few : N ≤ 16) (piece : Piece) (from to : Rotation) (free : Field) (is : IsLaneMap F piece (canonical_rotation piece to) N free) where
   abbrev O : Field
   O = opened piece (canonical_rotation piece to) N free
 

@@ -8,9 +8,10 @@ use Rattle.srs.specs.declared.placement.Placement.{Placement}
 use Rattle.srs.specs.Cells.{Cell, minus, moved}
 use Rattle.srs.proofs.CallerLemmas.{less, pivot_inside}
 use Rattle.well.specs.Free.{is_free_at}
+use Rattle.well.specs.LockLaws.{LiesBelow}
 use Rattle.place_sets.proofs.CallerLemmas.{LiesWithin, moved_from, moved_to}
 use Rattle.moves.specs.Height.{fits_column}
-use Rattle.moves.specs.Sky.{IsClearFrom, IsUnderSky}
+use Rattle.moves.specs.Sky.{IsUnderSky}
 use Rattle.moves.specs.Lanes.{lane}
 use Rattle.low_flood.specs.SkyBoard.{with_lower, inside_lanes, IsLaneMap, sky_board}
 use Rattle.moves.proofs.CallerLemmas.{free_fits, sky_free, near, sky_from}
@@ -64,7 +65,7 @@ smear_twice N n B R lies smear = record { from = from; to = to }
     ]
 
 -- the board of a rotation, at the states of that rotation
-module _ (F : Field) (r N : ℕ) (clear : IsClearFrom r F) (over : r ≤ N) (few : N ≤ 16) (s : Placement) (y : ℕ) (at : lane s ≡ pos y) (free : Field) (is : IsLaneMap F s.piece s.rotation N free) where
+module _ (F : Field) (r N : ℕ) (clear : LiesBelow F r) (over : r ≤ N) (few : N ≤ 16) (s : Placement) (y : ℕ) (at : lane s ≡ pos y) (free : Field) (is : IsLaneMap F s.piece s.rotation N free) where
   at_lane : (j : ℕ) → y + j < N → free s.x (y + j) ≡ is_free_at F s.piece s.rotation (pos s.x, pos (s.y + j))
   at_lane j below = search rules
 

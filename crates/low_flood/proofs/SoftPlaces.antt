@@ -18,11 +18,11 @@ use Rattle.srs.specs.SameCells.{HasSameCells}
 use Rattle.srs.proofs.CallerLemmas.{IsCanonical-from_test, is_canonical-from, canonical_pivot, canonical_unique, found_cells, found_canonical, same_cells-piece, same_cells-sym, same_cells-trans, rotation_index-injective, each_state}
 use Rattle.well.specs.Free.{is_free}
 use Rattle.well.proofs.CallerLemmas.{free_inside}
+use Rattle.well.specs.LockLaws.{LiesBelow}
 use Rattle.moves.specs.declared.key.Key.TheVariants.{Clockwise, Anti}
 use Rattle.moves.specs.declared.key.DropMode.TheVariants.{Soft}
 use Rattle.moves.specs.Place.{IsPlace}
 use Rattle.moves.specs.Step.{turned}
-use Rattle.moves.specs.Sky.{IsClearFrom}
 use Rattle.moves.specs.RestingStates.{IsResting, IsKeyed}
 use Rattle.moves.specs.Lanes.{lowest, lane}
 use Rattle.moves.proofs.CallerLemmas.{soft_places, rest_lane, keyed_in}
@@ -60,7 +60,7 @@ low_clockwise p to = subst (λ (r : Rotation). list_all (is_low_move p (anticloc
 low_anti : (p : Piece) (to : Rotation) → list_all (is_low_move p (clockwise_of to) to) (kicks_of srs_table p (clockwise_of to) to) ≡ true
 low_anti p to = subst (λ (r : Rotation). list_all (is_low_move p (clockwise_of to) r) (kicks_of srs_table p (clockwise_of to) r) ≡ true) (back_anti to) (anti_low p (clockwise_of to))
 
-module _ (F : Field) (rows N : ℕ) (clear : IsClearFrom rows F) (over : rows + 2 ≤ N) (few : N ≤ 16) (piece : Piece) (free : Lanes)
+module _ (F : Field) (rows N : ℕ) (clear : LiesBelow F rows) (over : rows + 2 ≤ N) (few : N ≤ 16) (piece : Piece) (free : Lanes)
     (is : (r : Rotation) → IsLaneMap F piece (canonical_rotation piece r) N (free r)) (lies : (r : Rotation) → LiesWithin (free r) N) where
   record AreSound (S : Lanes) : Type 0 where
     each : (r : Rotation) → IsSoundBoard F piece r (free r) (S r)
@@ -243,7 +243,7 @@ pub soft_within : (piece : Piece) (N : ℕ) (free S : Lanes) (rotation : Rotatio
 unfolding soft_board
 soft_within piece N free S rotation = own_within (has_own_cells piece rotation) _ (pivots_within piece rotation _)
 
-pub soft_by : (F : Field) (N M : ℕ) (piece : Piece) (free S T : Lanes) → IsClearFrom (N - 2) F → 8 ≤ N → N ≤ 16 → LiesWithin F N → free ≡ free_boards piece N F → IsSoftFlood piece N free S → IsCut M (soft_board piece N free S) T → HasExactly (IsUnder M (IsPlace srs_table F Soft)) piece T
+pub soft_by : (F : Field) (N M : ℕ) (piece : Piece) (free S T : Lanes) → LiesBelow F (N - 2) → 8 ≤ N → N ≤ 16 → LiesWithin F N → free ≡ free_boards piece N F → IsSoftFlood piece N free S → IsCut M (soft_board piece N free S) T → HasExactly (IsUnder M (IsPlace srs_table F Soft)) piece T
 unfolding has_state free_boards
 soft_by F N M piece free S T clear many few lies is_free flood cut =
     cut_exact M (IsPlace srs_table F Soft) piece (soft_board piece N free S) T (soft_within piece N free S)

@@ -3,8 +3,8 @@ ghost use Rattle.std.specs.Prelude.{◌-◌, ◌≤◌, ◌↔◌, IsTrue};
 ghost use Rattle.lane_board.specs.Board.{field_of};
 ghost use Rattle.lane_board.specs.Lanes.{is_lane_count};
 ghost use Rattle.srs.specs.Kick.{srs_table};
+ghost use Rattle.well.specs.LockLaws.{LiesBelow};
 ghost use Rattle.moves.specs.declared.key.DropMode.{DropMode};
-ghost use Rattle.moves.specs.Sky.{IsClearFrom};
 ghost use Rattle.moves.specs.Place.{IsPlace};
 ghost use Rattle.place_sets.specs.States.{HasExactly, IsUnder, states_of};
 ghost use Rattle.low_flood.specs.LanePlaces.{IsCut, hard_board};
@@ -23,7 +23,7 @@ pub fn low_places<const M: usize>(
     piece: Piece,
     drop_mode: DropMode,
 ) -> Pivots<M>
-    requires clear { IsClearFrom 8 (field_of filled.now) }
+    requires clear { LiesBelow (field_of filled.now) 8 }
     requires lane_count { IsTrue (is_lane_count M) }
     requires within { M ≤ 24 }
     ensures { HasExactly (IsUnder M (IsPlace srs_table (field_of filled.now) drop_mode)) piece (states_of result) }
@@ -36,7 +36,7 @@ pub fn low_places<const M: usize>(
 
 /// The places of a soft drop.
 fn low_soft_places<const M: usize>(filled: &LaneBoard<24>, piece: Piece) -> Pivots<M>
-    requires clear { IsClearFrom 8 (field_of filled.now) }
+    requires clear { LiesBelow (field_of filled.now) 8 }
     requires lane_count { IsTrue (is_lane_count M) }
     requires within { M ≤ 24 }
     ensures { HasExactly (IsUnder M (IsPlace srs_table (field_of filled.now) DropMode.Soft)) piece (states_of result) }
@@ -49,7 +49,7 @@ fn low_soft_places<const M: usize>(filled: &LaneBoard<24>, piece: Piece) -> Pivo
 
 /// The places of a soft drop on lanes, by the copy of the flood that is compiled for the piece.
 fn soft_copies<const N: usize, const M: usize>(filled: &LaneBoard<N>, piece: Piece) -> Pivots<M>
-    requires clear { IsClearFrom (N - 2) (field_of filled.now) }
+    requires clear { LiesBelow (field_of filled.now) (N - 2) }
     requires few { N ≤ 16 }
     requires lane_count { IsTrue (is_lane_count M) }
     requires within { M ≤ 24 }
@@ -68,7 +68,7 @@ fn soft_copies<const N: usize, const M: usize>(filled: &LaneBoard<N>, piece: Pie
 
 /// The places of a hard drop.
 fn low_hard_places<const M: usize>(filled: &LaneBoard<24>, piece: Piece) -> Pivots<M>
-    requires clear { IsClearFrom 8 (field_of filled.now) }
+    requires clear { LiesBelow (field_of filled.now) 8 }
     requires lane_count { IsTrue (is_lane_count M) }
     requires within { M ≤ 24 }
     ensures { HasExactly (IsUnder M (IsPlace srs_table (field_of filled.now) DropMode.Hard)) piece (states_of result) }
@@ -101,7 +101,7 @@ fn hard_copies<const N: usize, const M: usize>(filled: &LaneBoard<N>, piece: Pie
 #[inline(always)]
 pub fn is_clear_from(filled: &LaneBoard<24>, row: u8) -> bool
     requires { row ≤ 24 }
-    ensures { IsTrue result ↔ IsClearFrom row (field_of filled.now) }
+    ensures { IsTrue result ↔ LiesBelow (field_of filled.now) row }
 {
     filled.is_clear_from(row)
 }

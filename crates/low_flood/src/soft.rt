@@ -5,8 +5,8 @@ ghost use Rattle.lane_board.specs.Board.{field_of};
 ghost use Rattle.lane_board.specs.Field.{intersection, rows_below};
 ghost use Rattle.lane_board.specs.Lanes.{is_lane_count};
 ghost use Rattle.srs.specs.Kick.{srs_table};
+ghost use Rattle.well.specs.LockLaws.{LiesBelow};
 ghost use Rattle.moves.specs.declared.key.DropMode.{DropMode};
-ghost use Rattle.moves.specs.Sky.{IsClearFrom};
 ghost use Rattle.moves.specs.Place.{IsPlace};
 ghost use Rattle.place_sets.specs.States.{HasExactly, IsUnder, states_of};
 ghost use Rattle.low_flood.specs.SoftLanes.{free_boards, skies, with_rotation, states_of_canonical, rests_in, lacking};
@@ -26,7 +26,7 @@ pub(crate) fn soft_places<const KIND: u8, const N: usize, const M: usize>(
     filled: &LaneBoard<N>,
     piece: Piece,
 ) -> Pivots<M>
-    requires clear { IsClearFrom (N - 2) (field_of filled.now) }
+    requires clear { LiesBelow (field_of filled.now) (N - 2) }
     requires few { N ≤ 16 }
     requires lane_count { IsTrue (is_lane_count M) }
     requires within { M ≤ 24 }

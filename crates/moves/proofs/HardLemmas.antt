@@ -15,6 +15,7 @@ use Rattle.srs.specs.Kick.{srs_table}
 use Rattle.srs.proofs.CallerLemmas.{less, is_among-moved, is_among-all, list_all-from_is_among, in_well-place, inside_cell, each_state, some_same, int_le-true}
 use Rattle.well.specs.Free.{is_open, is_free_at, is_free}
 use Rattle.well.proofs.CallerLemmas.{open_at, free_inside, free_pivot}
+use Rattle.well.specs.LockLaws.{LiesBelow}
 use Rattle.moves.specs.declared.key.Key.{Key}
 use Rattle.moves.specs.declared.key.Key.TheVariants.{Left, Right, Down, Clockwise, Anti}
 use Rattle.moves.specs.declared.key.DropMode.TheVariants.{Hard}
@@ -27,7 +28,7 @@ use Rattle.moves.proofs.StepLemmas.{step_of-free, pivot_of_free}
 use Rattle.moves.proofs.WalkLemmas.{not_some, led_none}
 use Rattle.moves.specs.Height.{rise, upright, fits_column}
 use Rattle.moves.specs.OpenKeys.{Spot, open_key, is_some, path}
-use Rattle.moves.specs.Sky.{IsClearFrom, IsUnderSky}
+use Rattle.moves.specs.Sky.{IsUnderSky}
 use Rattle.moves.proofs.TableFacts.{all_below, below_each, is_level, shape_level, turns_kept}
 use Rattle.moves.specs.SkyLaws.{KeepsHeight}
 use Rattle.moves.proofs.OpenLemmas.{open_height, IsOpenHeight, open_step, free_fits, natural}
@@ -50,7 +51,7 @@ unfolding shifted first_free moved
 shift_level F s dx t e =
     search (rules, (cases_Bool (is_free_at F s.piece s.rotation (pos s.x +ℤ dx, pos s.y +ℤ pos 0))), free_pivot, some_same, cond-true, not_some, cond-false)
 
-module _ (F : Field) (r : ℕ) (clear : IsClearFrom r F) (h : ℕ) (piece : Piece) (room : IsOpenHeight piece r h) where
+module _ (F : Field) (r : ℕ) (clear : LiesBelow F r) (h : ℕ) (piece : Piece) (room : IsOpenHeight piece r h) where
   turn_level : (s : Placement) (key : Key) (t : Placement) → StandsAt h piece s → is_some (open_key s.piece (s.rotation, s.x) key) ≡ true → step_of srs_table F s key ≡ Some t → upright t ≡ pos h
   turn_level s key t at some e =
       let spot = some_of (open_key s.piece (s.rotation, s.x) key) some in
@@ -80,7 +81,7 @@ module _ (F : Field) (r : ℕ) (clear : IsClearFrom r F) (h : ℕ) (piece : Piec
       next (Some u) f later = later u (stays_level s key u at (allowed 0 key (omega arith)) f) (ap (λ (o : Option Placement). led (step_of srs_table F) o keys) (sym f) ∙ e)
 
 -- from the spawn too
-pub leads_level : (F : Field) (r : ℕ) → IsClearFrom r F → r ≤ 18 → (piece : Piece) (keys : List Key) (t : Placement) → All (λ key. IsTrue (allows Hard key)) keys → state_after srs_table F piece keys ≡ Some t → StandsAt 20 piece t
+pub leads_level : (F : Field) (r : ℕ) → LiesBelow F r → r ≤ 18 → (piece : Piece) (keys : List Key) (t : Placement) → All (λ key. IsTrue (allows Hard key)) keys → state_after srs_table F piece keys ≡ Some t → StandsAt 20 piece t
 unfolding state_after spawned
 leads_level F r clear low piece keys t allowed e = elim (cases_Bool (is_free F (spawn_of piece))) [
   | inl free ↦
@@ -91,7 +92,7 @@ leads_level F r clear low piece keys t allowed e = elim (cases_Bool (is_free F (
 ]
 
 -- what a state falls to from the spawn's height lies under the sky
-module _ (F : Field) (r : ℕ) (clear : IsClearFrom r F) (low : r ≤ 18) (s t : Placement) (height : upright s ≡ pos 20) (above : StandsAbove F s t) where
+module _ (F : Field) (r : ℕ) (clear : LiesBelow F r) (low : r ≤ 18) (s t : Placement) (height : upright s ≡ pos 20) (above : StandsAbove F s t) where
   not_filled : (x y k : ℕ) → is_among (cells_of t) (pos x, pos y) ≡ true → y ≤ k → k < r → F x k ≡ false
   unfolding is_free_at is_open less is_level
   not_filled x y k has up below =
@@ -113,7 +114,7 @@ unfolding all_below
 path_allowed piece rotation = below_each 10 (λ x. list_all (allows Hard) (path piece rotation x)) (each_state (λ p r. all_below 10 (λ x. list_all (allows Hard) (path p r x))) refl piece rotation)
 
 -- a state all of whose cells lie above row r is free one row lower
-module _ (F : Field) (r : ℕ) (clear : IsClearFrom r F) (t : Placement) (free : is_free F t ≡ true) (over : (c : Cell) → is_among (shape t.piece t.rotation) c ≡ true → pos (r + 1) ≤ℤ (pos t.y +ℤ c.1)) where
+module _ (F : Field) (r : ℕ) (clear : LiesBelow F r) (t : Placement) (free : is_free F t ≡ true) (over : (c : Cell) → is_among (shape t.piece t.rotation) c ≡ true → pos (r + 1) ≤ℤ (pos t.y +ℤ c.1)) where
   lower_open : (c : Cell) → is_among (shape t.piece t.rotation) c ≡ true → is_open F (moved (lowered t 1) c) ≡ true
   unfolding moved
   lower_open c has =
@@ -126,7 +127,7 @@ module _ (F : Field) (r : ℕ) (clear : IsClearFrom r F) (t : Placement) (free :
       ∙ list_all-from_is_among (λ c. is_open F (moved (lowered t 1) c)) (shape t.piece t.rotation) lower_open
 
 -- in the open a turn succeeds and keeps the height
-pub turns_keep : (F : Field) (r : ℕ) (s : Placement) → IsClearFrom r F → is_free F s ≡ true → pos (r + 2) ≤ℤ upright s → upright s ≤ℤ pos 20 → KeepsHeight F s Clockwise × KeepsHeight F s Anti
+pub turns_keep : (F : Field) (r : ℕ) (s : Placement) → LiesBelow F r → is_free F s ≡ true → pos (r + 2) ≤ℤ upright s → upright s ≤ℤ pos 20 → KeepsHeight F s Clockwise × KeepsHeight F s Anti
 turns_keep F r s clear free low high_enough =
     let h = natural (upright s) (omega (arith, ints)) in
     let is = h.is in

@@ -6,13 +6,14 @@ use Rattle.srs.specs.declared.piece.Piece.{Piece}
 use Rattle.srs.specs.declared.placement.Placement.{Placement}
 use Rattle.srs.specs.Kick.{srs_table}
 use Rattle.srs.proofs.CallerLemmas.{same_cells-piece, list_all_each}
+use Rattle.well.specs.LockLaws.{LiesBelow}
 use Rattle.moves.specs.declared.key.DropMode.TheVariants.{Hard}
 use Rattle.moves.specs.Keys.{allows}
 use Rattle.moves.specs.Leads.{state_after}
 use Rattle.moves.specs.Place.{IsPlace}
 use Rattle.moves.proofs.StepLemmas.{pivot_of_free}
 use Rattle.moves.specs.OpenKeys.{path}
-use Rattle.moves.specs.Sky.{IsClearFrom, IsUnderSky}
+use Rattle.moves.specs.Sky.{IsUnderSky}
 use Rattle.moves.specs.RestingStates.{IsRestWhere}
 use Rattle.moves.proofs.OpenLemmas.{free_fits}
 use Rattle.moves.proofs.SkyLemmas.{high, sky_free}
@@ -20,7 +21,7 @@ use Rattle.moves.proofs.AboveRest.{stands_above, comes_to_rest}
 use Rattle.moves.proofs.HardLemmas.{path_allowed, leads_level, under_sky}
 use Rattle.moves.proofs.LaneFacts.{near, rest_lane}
 
-pub hard_places : (F : Field) (r : ℕ) (q : Placement) → IsClearFrom r F → r ≤ 18 → IsPlace srs_table F Hard q ↔ IsRestWhere F (IsUnderSky F) q
+pub hard_places : (F : Field) (r : ℕ) (q : Placement) → LiesBelow F r → r ≤ 18 → IsPlace srs_table F Hard q ↔ IsRestWhere F (IsUnderSky F) q
 hard_places F r q clear low = (there, back)
   where
     there : IsPlace srs_table F Hard q → IsRestWhere F (IsUnderSky F) q

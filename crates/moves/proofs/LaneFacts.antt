@@ -13,8 +13,9 @@ use Rattle.srs.specs.SameCells.{is_among}
 use Rattle.srs.proofs.CallerLemmas.{less, is_among-moved, is_among-all, each_state, int_le-true}
 use Rattle.well.specs.Free.{is_open, is_free_at, is_free}
 use Rattle.well.proofs.CallerLemmas.{free_inside}
+use Rattle.well.specs.LockLaws.{LiesBelow}
 use Rattle.moves.specs.Height.{rise, upright}
-use Rattle.moves.specs.Sky.{IsClearFrom, IsUnderSky}
+use Rattle.moves.specs.Sky.{IsUnderSky}
 use Rattle.moves.specs.RestingStates.{IsResting}
 use Rattle.moves.specs.Lanes.{lowest, lane}
 use Rattle.moves.proofs.OpenLemmas.{natural}
@@ -46,7 +47,7 @@ pub cases_lane : (N : ℕ) (t : Placement) → (lane t <ℤ pos N) ⊎ (pos N �
 cases_lane N t = search (rules, int_le-true, deep, natural, cases_lt)
 
 -- a resting state has its lane no higher than the rows that may be filled
-pub rest_lane : (F : Field) (r : ℕ) → IsClearFrom r F → (t : Placement) → IsResting F t → lane t ≤ℤ pos r
+pub rest_lane : (F : Field) (r : ℕ) → LiesBelow F r → (t : Placement) → IsResting F t → lane t ≤ℤ pos r
 unfolding is_over
 rest_lane F r clear t rests = elim (cases_lane (r + 1) t) [
   | inl low ↦ omega (arith, ints)
@@ -59,9 +60,9 @@ pub lowest_near : (p : Piece) (r : Rotation) → minus 2 ≤ℤ lowest (shape p 
 lowest_near p r = int_le-true (minus 2) (lowest (shape p r)) (each_state (λ p r. int_le (minus 2) (lowest (shape p r))) refl p r)
 
 -- a free state lies under the sky where it is free at each lane on the way up to row r
-pub sky_from : (F : Field) (r : ℕ) → IsClearFrom r F → (t : Placement) → is_free F t ≡ true → ((j : ℕ) → (lane t +ℤ pos j) <ℤ pos r → is_free_at F t.piece t.rotation (pos t.x, pos (t.y + j)) ≡ true) → IsUnderSky F t
+pub sky_from : (F : Field) (r : ℕ) → LiesBelow F r → (t : Placement) → is_free F t ≡ true → ((j : ℕ) → (lane t +ℤ pos j) <ℤ pos r → is_free_at F t.piece t.rotation (pos t.x, pos (t.y + j)) ≡ true) → IsUnderSky F t
 unfolding is_free_at is_open less is_over
-sky_from F r clear t free above = record { inside = free_inside F t free; clear = λ x y k has up. elim (cases_lt k r) [ inl below ↦ not_filled x y k has up below | inr high ↦ clear.clear x k high ] }
+sky_from F r clear t free above = record { inside = free_inside F t free; clear = λ x y k has up. elim (cases_lt k r) [ inl below ↦ not_filled x y k has up below | inr high ↦ clear.none x k high ] }
   where
     not_filled : (x y k : ℕ) → is_among (cells_of t) (pos x, pos y) ≡ true → y ≤ k → k < r → F x k ≡ false
     not_filled x y k has up below =

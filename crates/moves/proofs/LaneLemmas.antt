@@ -15,6 +15,7 @@ use Rattle.srs.specs.Rotation.{clockwise_of, anticlockwise_of}
 use Rattle.srs.proofs.CallerLemmas.{cell_eq-decides, less, is_among-moved, is_among-all, each_state, some_same, int_le-true}
 use Rattle.well.specs.Free.{is_free_at, is_free}
 use Rattle.well.proofs.CallerLemmas.{free_inside, free_pivot}
+use Rattle.well.specs.LockLaws.{LiesBelow}
 use Rattle.moves.specs.declared.key.Key.{Key}
 use Rattle.moves.specs.declared.key.Key.TheVariants.{Left, Right, Down, Clockwise, Anti}
 use Rattle.moves.specs.declared.key.DropMode.TheVariants.{Soft, Hard}
@@ -25,7 +26,7 @@ use Rattle.moves.specs.Walk.{led}
 use Rattle.moves.proofs.StepLemmas.{step_of-free, pivot_of_free}
 use Rattle.moves.proofs.WalkLemmas.{not_some, led_none}
 use Rattle.moves.specs.Height.{rise, upright}
-use Rattle.moves.specs.Sky.{IsClearFrom, IsUnderSky}
+use Rattle.moves.specs.Sky.{IsUnderSky}
 use Rattle.moves.specs.RestingStates.{IsKeyed}
 use Rattle.moves.specs.Lanes.{lowest, lane, IsFloodBelow}
 use Rattle.moves.proofs.OpenLemmas.{open_height, natural, IsOpenHeight, free_fits}
@@ -33,7 +34,7 @@ use Rattle.moves.proofs.HardLemmas.{StandsAt, stays_level}
 use Rattle.moves.proofs.LaneFacts.{is_over, shape_over, near, cases_lane}
 
 -- a free state whose lane is no lower than all rows are clear from lies under the sky
-pub inside_under_sky : (F : Field) (r : ℕ) → IsClearFrom r F → (t : Placement) → is_inside_of t ≡ true → pos r ≤ℤ lane t → IsUnderSky F t
+pub inside_under_sky : (F : Field) (r : ℕ) → LiesBelow F r → (t : Placement) → is_inside_of t ≡ true → pos r ≤ℤ lane t → IsUnderSky F t
 unfolding is_over less
 inside_under_sky F r clear t inside over = record { inside = inside; clear = each }
   where
@@ -43,7 +44,7 @@ inside_under_sky F r clear t inside over = record { inside = inside; clear = eac
         let has_c : is_among (shape t.piece t.rotation) c ≡ true = sym (is_among-moved (pivot_of t) (shape t.piece t.rotation) (pos x, pos y)) ∙ has in
         let low = int_le-true (lowest (shape t.piece t.rotation)) c.1 (is_among-all (is_over t.piece t.rotation) (shape t.piece t.rotation) c (shape_over t.piece t.rotation) has_c) in
         let within : r ≤ k = omega (arith, ints) in
-        clear.clear x k within
+        clear.none x k within
 
 -- where a key takes a pivot
 pub record Lifts (piece : Piece) (to : Rotation) (pivot move : Cell) (t : Placement) : Type 0 where
@@ -130,7 +131,7 @@ pub record IsOpenState (r : ℕ) (F : Field) (piece : Piece) (s : Placement) : T
   clear : pos r ≤ℤ lane s
   low : upright s ≤ℤ pos 20
 
-module _ (F : Field) (r N : ℕ) (clear : IsClearFrom r F) (over : r + 2 ≤ N) (few : N ≤ 16) (piece : Piece) (S : Placement → Type 0) (flood : IsFloodBelow N F piece S) where
+module _ (F : Field) (r N : ℕ) (clear : LiesBelow F r) (over : r + 2 ≤ N) (few : N ≤ 16) (piece : Piece) (S : Placement → Type 0) (flood : IsFloodBelow N F piece S) where
   stands : (s : Placement) → IsAbove N F piece s → (h : ℕ) → upright s ≡ pos h → StandsAt h piece s
   stands s above h e = search (rules, pivot_of_free, free_fits)
 
@@ -185,7 +186,7 @@ module _ (F : Field) (r N : ℕ) (clear : IsClearFrom r F) (over : r + 2 ≤ N) 
       next (Some u) f later = later u (next_in s u key here f) (ap (λ (o : Option Placement). led (step_of srs_table F) o keys) (sym f) ∙ e)
 
 -- the flood below lane N has each state below it to which keys lead
-pub keyed_in : (F : Field) (r N : ℕ) (piece : Piece) (S : Placement → Type 0) → IsClearFrom r F → r + 2 ≤ N → N ≤ 16 → IsFloodBelow N F piece S → (t : Placement) → t.piece ≡ piece → IsKeyed srs_table F Soft t → lane t <ℤ pos N → S t
+pub keyed_in : (F : Field) (r N : ℕ) (piece : Piece) (S : Placement → Type 0) → LiesBelow F r → r + 2 ≤ N → N ≤ 16 → IsFloodBelow N F piece S → (t : Placement) → t.piece ≡ piece → IsKeyed srs_table F Soft t → lane t <ℤ pos N → S t
 unfolding state_after spawned
 keyed_in F r N piece S clear over few flood t kind keyed below =
     search (rules, (cases_Bool (is_free F (spawn_of piece))), (led_in F r N clear over few piece S flood keyed.keys (spawn_of piece) t), cond-true, not_some, (led_none (step_of srs_table F) keyed.keys), cond-false, keyed.leads_there)

@@ -15,6 +15,7 @@ use Rattle.srs.specs.Kick.{srs_table, kicks_of}
 use Rattle.srs.specs.Rotation.{clockwise_of, anticlockwise_of}
 use Rattle.well.specs.Free.{is_open, is_free_at}
 use Rattle.well.proofs.CallerLemmas.{open_at, open_in_well}
+use Rattle.well.specs.LockLaws.{LiesBelow}
 use Rattle.moves.specs.declared.key.Key.{Key}
 use Rattle.moves.specs.declared.key.Key.TheVariants.{Left, Right, Down, Clockwise, Anti}
 use Rattle.moves.specs.Step.{state_at, first_free, shifted, turned, step_of}
@@ -22,7 +23,6 @@ use Rattle.moves.specs.Walk.{led}
 use Rattle.moves.proofs.WalkLemmas.{not_some}
 use Rattle.moves.specs.Height.{depth, rise, is_column, fits_column}
 use Rattle.moves.specs.OpenKeys.{Spot, spot_in, first_fitting, level_kick, open_turn, open_shift, open_key, open_led}
-use Rattle.moves.specs.Sky.{IsClearFrom}
 use Rattle.srs.proofs.CallerLemmas.{some_same, int_le-true}
 use Rattle.moves.proofs.TableFacts.{is_level, shape_level, is_not_deep, shape_not_deep, depth_small}
 
@@ -90,7 +90,7 @@ depth_is piece = let parts = and_parts (nat_le 1 (depth piece)) (nat_le (depth p
 pub open_height : (piece : Piece) (r h : ℕ) → r + 2 ≤ h → h ≤ 20 → IsOpenHeight piece r h
 open_height piece r h low high = record { low = omega (arith, (depth_is piece).few); high = high }
 
-module _ (F : Field) (r : ℕ) (clear : IsClearFrom r F) (h : ℕ) (piece : Piece) (room : IsOpenHeight piece r h) where
+module _ (F : Field) (r : ℕ) (clear : LiesBelow F r) (h : ℕ) (piece : Piece) (room : IsOpenHeight piece r h) where
   -- there each piece that fits the columns is free
   open_cell : (rotation : Rotation) (pivot c : Cell) → pivot.1 +ℤ rise piece rotation ≡ pos h → is_column (pivot.0 +ℤ c.0) ≡ true → (is_level piece rotation c && is_not_deep piece rotation c) ≡ true → is_open F (moved pivot c) ≡ true
   unfolding moved is_level is_not_deep

@@ -18,6 +18,7 @@ use Rattle.std.specs.Cmp.{signed_Decides}
 use Rattle.std.specs.Ordering.{int_eq}
 use Rattle.well.specs.Free.{is_open, is_free_at, is_free}
 use Rattle.well.proofs.CallerLemmas.{open_at}
+use Rattle.well.specs.LockLaws.{LiesBelow}
 use Rattle.moves.specs.declared.key.Key.{Key}
 use Rattle.moves.specs.declared.key.Key.TheVariants.{Down}
 use Rattle.moves.specs.declared.key.DropMode.TheVariants.{Soft}
@@ -27,7 +28,7 @@ use Rattle.moves.specs.Leads.{spawn_of, spawned, state_after}
 use Rattle.moves.specs.Walk.{led}
 use Rattle.moves.specs.Height.{rise, upright, fits_column}
 use Rattle.moves.specs.OpenKeys.{open_led, path, repeated}
-use Rattle.moves.specs.Sky.{IsClearFrom, IsUnderSky}
+use Rattle.moves.specs.Sky.{IsUnderSky}
 use Rattle.moves.specs.RestingStates.{IsKeyed}
 use Rattle.moves.proofs.TableFacts.{is_level, shape_level, paths_lead}
 use Rattle.moves.proofs.OpenLemmas.{IsOpenHeight, open_height, open_free, free_fits, open_leads}
@@ -48,7 +49,7 @@ pub record IsHigh (F : Field) (piece : Piece) (rotation : Rotation) (x : ℕ) : 
   pub height : pos row +ℤ rise piece rotation ≡ pos 20
   pub leads_there : state_after srs_table F piece (path piece rotation x) ≡ Some (record { piece = piece; rotation = rotation; x = x; y = row })
 
-pub high : (F : Field) (r : ℕ) → IsClearFrom r F → r ≤ 18 → (piece : Piece) (rotation : Rotation) (x : ℕ) → x < 10 → fits_column piece rotation (pos x) ≡ true → IsHigh F piece rotation x
+pub high : (F : Field) (r : ℕ) → LiesBelow F r → r ≤ 18 → (piece : Piece) (rotation : Rotation) (x : ℕ) → x < 10 → fits_column piece rotation (pos x) ≡ true → IsHigh F piece rotation x
 unfolding spawned state_after
 high F r clear low piece rotation x within fits =
     let room : IsOpenHeight piece r 20 = open_height piece r 20 (omega arith) (omega arith) in
@@ -92,7 +93,7 @@ module _ (F : Field) (s : Placement) (sky : IsUnderSky F s) where
 pub soft_allows : (key : Key) → IsTrue (allows Soft key)
 soft_allows key = search rules
 
-pub sky_is_reached : (F : Field) (r : ℕ) (s : Placement) → IsClearFrom r F → r ≤ 18 → IsUnderSky F s → upright s ≤ℤ pos 20 → IsKeyed srs_table F Soft s
+pub sky_is_reached : (F : Field) (r : ℕ) (s : Placement) → LiesBelow F r → r ≤ 18 → IsUnderSky F s → upright s ≤ℤ pos 20 → IsKeyed srs_table F Soft s
 unfolding state_after
 sky_is_reached F r s clear low sky under =
     let here : (upright s +ℤ pos 0) ≤ℤ pos 20 = omega (arith, ints) in

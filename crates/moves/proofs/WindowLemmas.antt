@@ -16,6 +16,7 @@ use Rattle.srs.specs.Kick.{srs_table}
 use Rattle.srs.proofs.CallerLemmas.{same_cells-piece, origin, is_among-all, each_state, pivot_in_shape, some_same, int_le-true}
 use Rattle.well.specs.Free.{is_free_at, is_free}
 use Rattle.well.proofs.CallerLemmas.{free_inside}
+use Rattle.well.specs.LockLaws.{LiesBelow}
 use Rattle.moves.specs.declared.key.Key.{Key}
 use Rattle.moves.specs.declared.key.Key.TheVariants.{Left, Right, Down, Clockwise, Anti}
 use Rattle.moves.specs.declared.key.DropMode.{DropMode}
@@ -28,7 +29,7 @@ use Rattle.moves.specs.Walk.{led}
 use Rattle.moves.proofs.StepLemmas.{step_of-free, pivot_of_free}
 use Rattle.moves.proofs.WalkLemmas.{not_some, led_none}
 use Rattle.moves.specs.Height.{rise, depth, upright}
-use Rattle.moves.specs.Sky.{IsClearFrom, IsUnderSky}
+use Rattle.moves.specs.Sky.{IsUnderSky}
 use Rattle.moves.specs.RestingStates.{IsResting, IsKeyed}
 use Rattle.moves.specs.Lanes.{lowest, lane}
 use Rattle.moves.specs.Window.{is_low, low_step, IsStart, IsWindowed, IsWindowPlace}
@@ -85,7 +86,7 @@ record IsOpenStart (F : Field) (r : ℕ) (s : Placement) : Type 0 where
   low : upright s ≤ℤ pos 20
   free : is_free F s ≡ true
 
-start_open : (F : Field) (r : ℕ) (s : Placement) → IsClearFrom r F → r ≤ 8 → IsStart r s → IsOpenStart F r s
+start_open : (F : Field) (r : ℕ) (s : Placement) → LiesBelow F r → r ≤ 8 → IsStart r s → IsOpenStart F r s
 start_open F r s clear few start =
     let by = near s in
     let rises = rise_near s.piece s.rotation in
@@ -97,7 +98,7 @@ start_open F r s clear few start =
     search (rules, (sky_free F s sky 0))
 
 -- Window places are places: with soft drop the start is reached, and the keys go on from there.
-windowed_soft : (F : Field) (r : ℕ) (s : Placement) → IsClearFrom r F → r ≤ 8 → IsWindowed F r Soft s → IsKeyed srs_table F Soft s
+windowed_soft : (F : Field) (r : ℕ) (s : Placement) → LiesBelow F r → r ≤ 8 → IsWindowed F r Soft s → IsKeyed srs_table F Soft s
 windowed_soft F r s clear few way =
     let at = start_open F r way.from clear few way.starts in
     let to = sky_is_reached F r way.from clear (omega arith) at.sky at.low in
@@ -119,7 +120,7 @@ record IsWindowedLow (F : Field) (r : ℕ) (piece : Piece) (s : Placement) : Typ
   windowed : IsWindowed F r Soft s
   low : upright s ≤ℤ pos 16
 
-module _ (F : Field) (r : ℕ) (clear : IsClearFrom r F) (few : r ≤ 8) (piece : Piece) where
+module _ (F : Field) (r : ℕ) (clear : LiesBelow F r) (few : r ≤ 8) (piece : Piece) where
   Here : Placement → Type 0
   Here s = IsHigh F r piece s ⊎ IsWindowedLow F r piece s
 
@@ -211,7 +212,7 @@ module _ (F : Field) (r : ℕ) (clear : IsClearFrom r F) (few : r ≤ 8) (piece 
   rest_windowed t rests (inl high) = let by = near t in let low = rest_lane F r clear t rests in let tall = high.tall in absurd (omega (arith, ints, by.low))
   rest_windowed t rests (inr here) = here.windowed
 
-pub soft_window : (F : Field) (r : ℕ) (q : Placement) → IsClearFrom r F → r ≤ 8 → IsWindowPlace F r Soft q ↔ IsPlace srs_table F Soft q
+pub soft_window : (F : Field) (r : ℕ) (q : Placement) → LiesBelow F r → r ≤ 8 → IsWindowPlace F r Soft q ↔ IsPlace srs_table F Soft q
 soft_window F r q clear few = (there, back)
   where
     there : IsWindowPlace F r Soft q → IsPlace srs_table F Soft q
@@ -245,7 +246,7 @@ rise_deep = each_state (λ p r. int_le (pos (depth p)) (pos 2 +ℤ rise p r)) re
 lane_deep : (p : Piece) (r : Rotation) → int_le (rise p r) (lowest (shape p r) +ℤ pos (depth p)) ≡ true
 lane_deep = each_state (λ p r. int_le (rise p r) (lowest (shape p r) +ℤ pos (depth p))) refl
 
-windowed_hard : (F : Field) (r : ℕ) (s t : Placement) → IsClearFrom r F → r ≤ 8 → IsWindowed F r Hard s → StandsAbove F s t → IsUnderSky F t
+windowed_hard : (F : Field) (r : ℕ) (s t : Placement) → LiesBelow F r → r ≤ 8 → IsWindowed F r Hard s → StandsAbove F s t → IsUnderSky F t
 windowed_hard F r s t clear few way above =
     let from = way.from in
     let at = start_open F r from clear few way.starts in
@@ -267,7 +268,7 @@ windowed_hard F r s t clear few way above =
         let lanes = int_le-true (rise t.piece t.rotation) (lowest (shape t.piece t.rotation) +ℤ pos (depth t.piece)) (lane_deep t.piece t.rotation) in
         omega (arith, ints)
 
-pub hard_window : (F : Field) (r : ℕ) (q : Placement) → IsClearFrom r F → r ≤ 8 → IsWindowPlace F r Hard q ↔ IsPlace srs_table F Hard q
+pub hard_window : (F : Field) (r : ℕ) (q : Placement) → LiesBelow F r → r ≤ 8 → IsWindowPlace F r Hard q ↔ IsPlace srs_table F Hard q
 hard_window F r q clear few = (there, back)
   where
     there : IsWindowPlace F r Hard q → IsPlace srs_table F Hard q
@@ -295,6 +296,6 @@ hard_window F r q clear few = (there, back)
           same_cells = found.same_cells;
         }
 
-pub window : (F : Field) (r : ℕ) (mode : DropMode) (q : Placement) → IsClearFrom r F → r ≤ 8 → IsWindowPlace F r mode q ↔ IsPlace srs_table F mode q
+pub window : (F : Field) (r : ℕ) (mode : DropMode) (q : Placement) → LiesBelow F r → r ≤ 8 → IsWindowPlace F r mode q ↔ IsPlace srs_table F mode q
 window F r Soft q = soft_window F r q
 window F r Hard q = hard_window F r q

@@ -5,10 +5,6 @@ use Rattle.srs.specs.declared.placement.Placement.{Placement}
 use Rattle.srs.specs.Cells.{cells_of, is_inside_of}
 use Rattle.srs.specs.SameCells.{is_among}
 
--- the field has no cell in row r or above
-pub record IsClearFrom (r : ℕ) (F : Field) : Type 0 where
-  pub clear : (x y : ℕ) → r ≤ y → F x y ≡ false
-
 -- the state is inside, and the field has no cell at or above any of its cells, in that cell's column
 pub record IsUnderSky (F : Field) (state : Placement) : Type 0 where
   pub inside : is_inside_of state ≡ true

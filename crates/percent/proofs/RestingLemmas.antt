@@ -14,12 +14,12 @@ use Rattle.srs.specs.SameCells.{is_among}
 use Rattle.srs.proofs.CallerLemmas.{each_state, has_cell-head, implied, in_well-place, inside_cell, is_among-all, some_passes}
 use Rattle.well.specs.Free.{is_free, is_free_at, is_open}
 use Rattle.well.proofs.CallerLemmas.{free_inside, open_at}
+use Rattle.well.specs.LockLaws.{LiesBelow}
 use Rattle.moves.specs.declared.key.DropMode.{DropMode}
 use Rattle.moves.specs.declared.key.DropMode.TheVariants.{Hard, Soft}
 use Rattle.moves.specs.Place.{IsPlace}
 use Rattle.moves.specs.Rest.{lowered}
 use Rattle.moves.specs.RestingStates.{IsResting}
-use Rattle.moves.specs.Sky.{IsClearFrom}
 use Rattle.moves.proofs.CallerLemmas.{hard_places, soft_allows, soft_places}
 use Rattle.empty_cells.proofs.CallerLemmas.{sent_from, sent_has}
 
@@ -118,6 +118,6 @@ place-stands table F mode q place =
 
 pub sky-clear : (F : Field) (height : ℕ) (q : Placement) → height ≤ 18 → ((x y : ℕ) → height ≤ y → F x y ≡ false) → IsPlace srs_table F Hard q → (x y k : ℕ) → is_among (cells_of q) (pos x, pos y) ≡ true → y ≤ k → F x k ≡ false
 sky-clear F height q low none place x y k has above =
-    let clear : IsClearFrom height F = record { clear = none } in
+    let clear : LiesBelow F height = record { none = none } in
     let at = (hard_places F height q clear low).0 place in
     at.holds.clear x y k (at.same_cells.same (pos x, pos y) ∙ has) above

@@ -4,8 +4,8 @@ ghost use Rattle.srs.specs.declared.placement.Placement.{Placement};
 ghost use Rattle.srs.specs.Kick.{srs_table};
 ghost use Rattle.srs.specs.Rules.{table_of};
 ghost use Rattle.well.specs.Well.{filled};
+ghost use Rattle.well.specs.LockLaws.{LiesBelow};
 ghost use Rattle.moves.specs.Place.{IsPlace};
-ghost use Rattle.moves.specs.Sky.{IsClearFrom};
 ghost use Rattle.moves.specs.Window.{IsWindowPlace};
 ghost use Rattle.place_sets.specs.States.{HasExactly, states_of};
 ghost use Rattle.place_sets.specs.Places.{holds, piece_of};
@@ -79,7 +79,7 @@ fn pivots_where(
 
 /// Whether all cells lie below row 8, as `window_places` requires.
 pub fn is_low(well: &Well) -> bool
-    ensures { IsTrue result ↔ IsClearFrom 8 (filled well.now) }
+    ensures { IsTrue result ↔ LiesBelow (filled well.now) 8 }
 {
     is_clear_from(&well.board(), 8)
 }
@@ -92,11 +92,11 @@ pub fn window_places<L: Ledger>(
     drop_mode: DropMode,
     steps: &mut Steps<L>,
 ) -> Places
-    requires { IsClearFrom 8 (filled well.now) }
+    requires { LiesBelow (filled well.now) 8 }
     ensures piece { piece_of result ≡ piece }
     ensures held { (q : Placement) → (IsTrue (holds result q))
         ↔ ((q.piece ≡ piece) × IsPlace srs_table (filled well.now) drop_mode q) }
-    ensures window { (r : ℕ) (q : Placement) → IsClearFrom r (filled well.now) → r ≤ 8 → (IsTrue (holds result q))
+    ensures window { (r : ℕ) (q : Placement) → LiesBelow (filled well.now) r → r ≤ 8 → (IsTrue (holds result q))
         ↔ ((q.piece ≡ piece) × IsWindowPlace (filled well.now) r drop_mode q) }
     ensures counted { steps.new ≡ steps.old + 1 }
 {

@@ -3,7 +3,7 @@ use Rattle.std.proofs.Common.{refl, sym, subst, arith}
 use Rattle.lane_board.specs.Field.{Field}
 use Rattle.srs.specs.Kick.{srs_table}
 use Rattle.well.specs.Well.{filled}
-use Rattle.moves.specs.Sky.{IsClearFrom}
+use Rattle.well.specs.LockLaws.{LiesBelow}
 use Rattle.moves.proofs.CallerLemmas.{window}
 use Rattle.moves.specs.Place.{IsPlace}
 use Rattle.place_sets.specs.States.{HasExactly, IsUnder, states_of}
@@ -12,7 +12,7 @@ use Rattle.low_flood.proofs.CallerLemmas.{places_under}
 use Rattle.reach.proofs.find.window_places.Goals as goal
 
 pub low_places-held-requires : goal.low_places-held-requires
-low_places-held-requires g c = (omega arith, (subst (IsClearFrom 8) (sym c.board.ensures) c.requires, (refl, omega arith)))
+low_places-held-requires g c = (omega arith, (subst (λ (F : Field). LiesBelow F 8) (sym c.board.ensures) c.requires, (refl, omega arith)))
 
 pub returns-clause-held : goal.returns-clause-held
 returns-clause-held g c =
