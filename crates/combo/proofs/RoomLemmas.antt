@@ -15,7 +15,7 @@ use Rattle.srs.specs.SameCells.{is_among}
 use Rattle.srs.proofs.CallerLemmas.{is_among-all}
 use Rattle.well.specs.Counts.{empties_below}
 use Rattle.well.specs.Free.{is_free, is_free_at, is_open}
-use Rattle.well.specs.Lock.{together, locked, rows_removed}
+use Rattle.well.specs.Lock.{with_cells, together, locked, rows_removed}
 use Rattle.well.proofs.CallerLemmas.{adds_four_cells, free_inside}
 use Rattle.moves.specs.declared.key.DropMode.{DropMode}
 use Rattle.moves.proofs.CallerLemmas.{place-free}
@@ -49,15 +49,15 @@ module _ (F : Field) (q : Placement) (is_gap : ℕ → Bool) (height left right 
   G = together F q
 
   kept : (x y : ℕ) → F x y ≡ true → G x y ≡ true
-  unfolding together
+  unfolding together with_cells
   kept x y filled = or_left _ _ filled
 
   placed : (x y : ℕ) → Has q x y → G x y ≡ true
-  unfolding together
+  unfolding together with_cells
   placed x y has = or_right _ _ has
 
   added : (x y : ℕ) → F x y ≡ false → G x y ≡ true → Has q x y
-  unfolding together
+  unfolding together with_cells
   added x y empty filled = search (rules, (or_cases (F x y) (is_among (cells_of q) (pos x, pos y)) filled), false≢true)
 
   open_cell : (x y : ℕ) → Has q x y → F x y ≡ false
@@ -167,7 +167,7 @@ module _ (F : Field) (q : Placement) (is_gap : ℕ → Bool) (height left right 
 
   -- four cells more below the height, if none lies at or above it
   four_more : ((x y : ℕ) → height ≤ y → Has q x y → ⊥) → cell_count G height ≡ cell_count F height + 4
-  unfolding locked rows_removed together
+  unfolding locked rows_removed together with_cells
   four_more none = search (rules, (same_above F G height (23 - height)), same_from_both, kept, (adds_four_cells F q free), (takes_ten_each G 23), or_cases)
 
   -- the room that is left is less by four

@@ -14,7 +14,7 @@ use Rattle.srs.specs.Order.{sequence_cmp}
 use Rattle.srs.specs.SameCells.{is_among}
 use Rattle.srs.proofs.CallerLemmas.{IsCanonical-from_test}
 use Rattle.well.specs.Free.{is_open, is_free_at}
-use Rattle.well.specs.Lock.{together, rows_removed}
+use Rattle.well.specs.Lock.{with_cells, together, rows_removed}
 use Rattle.moves.specs.declared.key.Key.{Key}
 use Rattle.moves.specs.declared.key.Key.TheVariants.{Right}
 use Rattle.moves.specs.declared.key.DropMode.TheVariants.{Soft}
@@ -47,11 +47,11 @@ is_a_place : IsPlace srs_table row Soft (straight 0)
 is_a_place = search (rules, IsCanonical-from_test, leads_to_rest-decides, leads_into_the_gap)
 
 fills_the_row : rows_removed row (straight 0) ≡ 1
-unfolding rows_removed together full_below is_full is_among moved
+unfolding rows_removed together with_cells full_below is_full is_among moved
 fills_the_row = refl
 
 fills_no_row : rows_removed row (straight 1) ≡ 0
-unfolding rows_removed together full_below is_full is_among moved
+unfolding rows_removed together with_cells full_below is_full is_among moved
 fills_no_row = refl
 
 one_piece_is_a_run : Runs srs_table Soft row (straight 0 ∷ [])

@@ -12,9 +12,10 @@ use Rattle.srs.specs.declared.rotation.Rotation.{Rotation}
 use Rattle.srs.specs.Cells.{Cell, shape}
 use Rattle.srs.specs.SameCells.{is_among}
 use Rattle.srs.proofs.CallerLemmas.{is_among-all, list_all-from_is_among, piece_code-injective}
+use Rattle.well.specs.Lock.{with_cells}
 use Rattle.prune.specs.Tiling.{Part, IsGeneralized, sent, is_empty_below, covers, Tiling, Supply}
 use Rattle.prune.specs.Laws.{with_one}
-use Rattle.prune.specs.OnePart.{with_cells, less_one}
+use Rattle.prune.specs.OnePart.{less_one}
 use Rattle.prune.proofs.CallerLemmas.{with_part, taken_part, has_cell-map, source_of}
 use Rattle.empty_cells.specs.declared.span.Span.{Span}
 use Rattle.empty_cells.specs.Empties.{all_but, has_cell}

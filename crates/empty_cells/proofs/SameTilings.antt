@@ -8,7 +8,7 @@ use Rattle.prune.specs.Tiling.{is_empty_below, Tiling, Supply}
 use Rattle.prune.proofs.CallerLemmas.{same_tiling}
 use Rattle.srs.specs.declared.placement.Placement.{Placement}
 use Rattle.srs.specs.SameCells.{is_among}
-use Rattle.well.specs.Lock.{together}
+use Rattle.well.specs.Lock.{with_cells, together}
 use Rattle.empty_cells.specs.Empties.{all_but, without_placement}
 use Rattle.empty_cells.proofs.StackLemmas.{apart}
 
@@ -22,5 +22,5 @@ tiling_below F rows height supply few = search (rules, same_tiling, empties_same
 
 -- what a placement leaves of the empty cells
 pub left_by_placement : (F : Field) (rows : ℕ) (q : Placement) → without_placement (difference (rows_below rows) F) q ≡ difference (rows_below rows) (together F q)
-unfolding without_placement difference together
+unfolding without_placement difference together with_cells
 left_by_placement F rows q = fun_ext (λ x. fun_ext (λ y. apart (rows_below rows x y) (F x y) (is_among (cells_of q) (pos x, pos y))))

@@ -18,7 +18,7 @@ use Rattle.srs.specs.SameCells.{is_among}
 use Rattle.srs.proofs.CallerLemmas.{Contains-cases, Contains-from_filter, Contains-none, Contains-range, find-false, find-true, placements_of-list, some_passes}
 use Rattle.well.specs.Free.{is_free}
 use Rattle.well.specs.Counts.{lowest_full, rows}
-use Rattle.well.specs.Lock.{locked, rows_removed, together}
+use Rattle.well.specs.Lock.{locked, rows_removed, together, with_cells}
 use Rattle.well.specs.LockLaws.{LiesBelow, is_below}
 use Rattle.moves.specs.declared.key.DropMode.{DropMode}
 use Rattle.moves.specs.Place.{IsPlace}
@@ -27,7 +27,6 @@ use Rattle.moves.proofs.CallerLemmas.{is_place-decides as place-decides, place-f
 use Rattle.hold_queue.specs.declared.hold.Hold.{Hold}
 use Rattle.problem.proofs.CallerLemmas.{IsLow, locked-low}
 use Rattle.prune.specs.Laws.{with_one}
-use Rattle.prune.specs.OnePart.{with_cells}
 use Rattle.prune.specs.Tiling.{IsGeneralized, Part, covers, is_empty_below}
 use Rattle.prune.proofs.CallerLemmas.{TilingOf, one_part_more}
 use Rattle.empty_cells.specs.Empties.{all_but}

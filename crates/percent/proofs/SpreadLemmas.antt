@@ -15,7 +15,7 @@ use Rattle.srs.specs.Cells.{Cell, cells_of}
 use Rattle.srs.specs.SameCells.{is_among}
 use Rattle.srs.proofs.CallerLemmas.{is_among-all, list_all-from_is_among}
 use Rattle.well.specs.Free.{is_free, is_free_at, is_open}
-use Rattle.well.specs.Lock.{locked, rows_removed, together}
+use Rattle.well.specs.Lock.{locked, rows_removed, together, with_cells}
 use Rattle.well.specs.LockLaws.{LiesBelow, is_below}
 use Rattle.well.proofs.CallerLemmas.{full_below_height, together_below}
 use Rattle.empty_cells.specs.Empties.{has_cell}
@@ -139,7 +139,7 @@ module _ (F : Field) (height : ℕ) (rows : List ℕ) (E : Field) (spread : IsSp
 
   -- where the placement stands, full rows as well
   pub spread-placed : IsSpread (together F q) height rows (difference E (sent_cells rows q))
-  unfolding difference together
+  unfolding difference together with_cells
   spread-placed = record {
     rises = spread.rises;
     within = spread.within;

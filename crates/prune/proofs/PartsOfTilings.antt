@@ -12,9 +12,10 @@ use Rattle.srs.specs.Cells.{Cell}
 use Rattle.srs.specs.SameCells.{is_among}
 use Rattle.srs.proofs.CallerLemmas.{has_cell-head, is_among-all, list_all-from_is_among}
 use Rattle.lane_board.specs.Field.{Field, intersection, rows_below}
+use Rattle.well.specs.Lock.{with_cells}
 use Rattle.prune.specs.Tiling.{Part, IsGeneralized, is_empty_below, covers, parts_of, Tiling, Supply}
 use Rattle.prune.specs.Laws.{with_one}
-use Rattle.prune.specs.OnePart.{with_cells, less_one}
+use Rattle.prune.specs.OnePart.{less_one}
 use Rattle.prune.proofs.CellCounts.{count_in, count_in-some, count_in-none}
 use Rattle.prune.proofs.PartLemmas.{covers-cons, part_length, part_once}
 

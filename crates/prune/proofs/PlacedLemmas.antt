@@ -16,7 +16,6 @@ use Rattle.well.specs.LockLaws.{is_below}
 use Rattle.well.proofs.CallerLemmas.{free_inside, stays_below, together_below}
 use Rattle.prune.specs.Tiling.{Part, sent, IsGeneralized, is_empty_below, covers, Tiling, Supply}
 use Rattle.prune.specs.Laws.{with_one, OnePlacement, FullRowsMayStand, MorePieces, kinds_placed, ClearedIsTiled}
-use Rattle.prune.specs.OnePart.{with_cells}
 use Rattle.prune.proofs.CellCounts.{count-yes, count-no}
 use Rattle.prune.proofs.EmptyCells.{is_empty_at, none_below}
 use Rattle.prune.proofs.RowOrigins.{standing}
@@ -62,18 +61,15 @@ pub placed_empty : (F : Field) (rows : ℕ) (q : Placement) → is_free F q ≡ 
 unfolding is_free_at
 placed_empty F rows q free below = search (rules, list_all-from_is_among, open_below, is_among-all)
 
-pub together_is : (F : Field) (q : Placement) → together F q ≡ with_cells F (cells_of q)
-unfolding together with_cells
-together_is F q = refl
-
 pub full_rows_may_stand : FullRowsMayStand
 unfolding locked rows_removed
 full_rows_may_stand F q height supply within below free placed = standing (together F q) height within (together_below F q height below placed) supply
 
 pub one_placement : OnePlacement
+unfolding together
 one_placement F q height supply within below free placed_below t =
     with_part F height (placed q) supply (placed_generalized q (free_inside F q free)) (placed_empty F height q free placed_below)
-    (subst (λ G. Tiling G height supply) (together_is F q) ((full_rows_may_stand F q height supply within below free placed_below).1 t))
+    ((full_rows_may_stand F q height supply within below free placed_below).1 t)
 
 pub more_pieces : MorePieces
 more_pieces F rows supply more enough t = search (rules, t.supplied)

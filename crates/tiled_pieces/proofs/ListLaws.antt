@@ -6,8 +6,9 @@ use Rattle.std.specs.List.{list_all}
 use Rattle.std.proofs.lemmas.List.Elements.{All-head}
 use Rattle.lane_board.specs.Field.{Field, difference}
 use Rattle.srs.specs.SameCells.{is_among}
+use Rattle.well.specs.Lock.{with_cells}
 use Rattle.prune.specs.Tiling.{IsGeneralized, Part, Supply, Tiling, covers, is_empty_below}
-use Rattle.prune.specs.OnePart.{less_one, with_cells}
+use Rattle.prune.specs.OnePart.{less_one}
 use Rattle.prune.proofs.CallerLemmas.{TilingOf, one_part_more}
 use Rattle.empty_cells.specs.Empties.{all_but, has_cell}
 use Rattle.empty_cells.proofs.CallerLemmas.{IsSmall, empty_within, not_without, one_back}

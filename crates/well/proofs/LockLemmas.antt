@@ -17,40 +17,36 @@ use Rattle.srs.specs.Cells.{Cell, moved, shape, cells_of, pivot_of}
 use Rattle.srs.specs.SameCells.{cell_eq, is_among}
 use Rattle.srs.proofs.CallerLemmas.{cell_eq-decides, is_among-all, each_state, cells_length}
 use Rattle.well.specs.Free.{is_open, is_free_at, is_free}
-use Rattle.well.specs.Lock.{with_place, together, locked, rows_removed}
+use Rattle.well.specs.Lock.{with_cell_at, with_cells, together, locked, rows_removed}
 use Rattle.well.specs.LockLaws.{AddsFourCells, LiesBelow, is_below, StaysBelow, RemovesBelow}
 
 -- a cell of the well is added as a column and a row are
-pub placed : (F : Field) (column row : ℕ) → with_place F (pos column, pos row) ≡ with_cell F column row
-unfolding with_place with_cell
+pub placed : (F : Field) (column row : ℕ) → with_cell_at F (pos column, pos row) ≡ with_cell F column row
+unfolding with_cell_at with_cell
 placed F column row = search (rules, fun_ext, cell_eq-decides, and_from, eq-eqb, and_parts, eqb-true, both_ways)
 
--- the field and the cells of a list
-unfoldable added : Field → List Cell → Field
-added F cells x y = F x y || is_among cells (pos x, pos y)
+with_cells-nil : (F : Field) → with_cells F [] ≡ F
+unfolding with_cells is_among
+with_cells-nil F = fun_ext (λ x. fun_ext (λ y. or_none (F x y) false refl))
 
-added-nil : (F : Field) → added F [] ≡ F
-unfolding added is_among
-added-nil F = fun_ext (λ x. fun_ext (λ y. or_none (F x y) false refl))
-
-added-cons : (F : Field) (cell : Cell) (cells : List Cell) → added F (cell ∷ cells) ≡ added (with_place F cell) cells
-unfolding added is_among with_place
-added-cons F cell cells = fun_ext (λ x. fun_ext (λ y. sym (or_assoc (F x y) (cell_eq cell (pos x, pos y)) (is_among cells (pos x, pos y)))))
+with_cells-cons : (F : Field) (cell : Cell) (cells : List Cell) → with_cells F (cell ∷ cells) ≡ with_cells (with_cell_at F cell) cells
+unfolding with_cells is_among with_cell_at
+with_cells-cons F cell cells = fun_ext (λ x. fun_ext (λ y. sym (or_assoc (F x y) (cell_eq cell (pos x, pos y)) (is_among cells (pos x, pos y)))))
 
 -- four cells are added one after another
-added_four : (F : Field) (cells : List Cell) (d : Cell) → length cells ≡ 4 →
-    added F cells ≡ with_place (with_place (with_place (with_place F (get_or cells 0 d)) (get_or cells 1 d)) (get_or cells 2 d)) (get_or cells 3 d)
-added_four F (a ∷ b ∷ c ∷ e ∷ []) d four = added-cons F a _ ∙ added-cons _ b _ ∙ added-cons _ c _ ∙ added-cons _ e [] ∙ added-nil _
-added_four F [] d four = absurd (omega arith)
-added_four F (a ∷ []) d four = absurd (omega arith)
-added_four F (a ∷ b ∷ []) d four = absurd (omega arith)
-added_four F (a ∷ b ∷ c ∷ []) d four = absurd (omega arith)
-added_four F (a ∷ b ∷ c ∷ e ∷ f ∷ cells) d four = absurd (omega arith)
+with_four : (F : Field) (cells : List Cell) (d : Cell) → length cells ≡ 4 →
+    with_cells F cells ≡ with_cell_at (with_cell_at (with_cell_at (with_cell_at F (get_or cells 0 d)) (get_or cells 1 d)) (get_or cells 2 d)) (get_or cells 3 d)
+with_four F (a ∷ b ∷ c ∷ e ∷ []) d four = with_cells-cons F a _ ∙ with_cells-cons _ b _ ∙ with_cells-cons _ c _ ∙ with_cells-cons _ e [] ∙ with_cells-nil _
+with_four F [] d four = absurd (omega arith)
+with_four F (a ∷ []) d four = absurd (omega arith)
+with_four F (a ∷ b ∷ []) d four = absurd (omega arith)
+with_four F (a ∷ b ∷ c ∷ []) d four = absurd (omega arith)
+with_four F (a ∷ b ∷ c ∷ e ∷ f ∷ cells) d four = absurd (omega arith)
 
 pub together_of : (F : Field) (q : Placement) (cells : List Cell) (d : Cell) → cells ≡ cells_of q →
-    with_place (with_place (with_place (with_place F (get_or cells 0 d)) (get_or cells 1 d)) (get_or cells 2 d)) (get_or cells 3 d) ≡ together F q
-unfolding together added
-together_of F q cells d e = sym (added_four F cells d (ap length e ∙ cells_length q)) ∙ ap (added F) e
+    with_cell_at (with_cell_at (with_cell_at (with_cell_at F (get_or cells 0 d)) (get_or cells 1 d)) (get_or cells 2 d)) (get_or cells 3 d) ≡ together F q
+unfolding together with_cells
+together_of F q cells d e = sym (with_four F cells d (ap length e ∙ cells_length q)) ∙ ap (with_cells F) e
 
 -- no cell stands twice in the list
 are_distinct : List Cell → Bool
@@ -89,34 +85,34 @@ moved_distinct move (c ∷ cs) distinct =
     and_from _ _ (moved_from_each move c cs parts.0) (moved_distinct move cs parts.1)
 
 -- an open cell that is added leaves the others open
-still_open : (F : Field) (cell other : Cell) → not (cell_eq cell other) ≡ true → is_open F other ≡ true → is_open (with_place F cell) other ≡ true
-unfolding is_open with_place
+still_open : (F : Field) (cell other : Cell) → not (cell_eq cell other) ≡ true → is_open F other ≡ true → is_open (with_cell_at F cell) other ≡ true
+unfolding is_open with_cell_at
 still_open F cell other apart opened =
     search (rules, and_parts, and_from, not_from_false, or_from, not-true, false≢true)
 
-all_still_open : (F : Field) (cell : Cell) (cells : List Cell) → list_all (λ other. not (cell_eq cell other)) cells ≡ true → list_all (is_open F) cells ≡ true → list_all (is_open (with_place F cell)) cells ≡ true
+all_still_open : (F : Field) (cell : Cell) (cells : List Cell) → list_all (λ other. not (cell_eq cell other)) cells ≡ true → list_all (is_open F) cells ≡ true → list_all (is_open (with_cell_at F cell)) cells ≡ true
 all_still_open F cell [] apart opened = refl
 all_still_open F cell (c ∷ cs) apart opened =
     search (rules, and_parts, and_from, still_open, (all_still_open F cell cs))
 
 -- an open cell is one more
-place_count : (F : Field) (cell : Cell) → is_open F cell ≡ true → cell_count (with_place F cell) 23 ≡ cell_count F 23 + 1
+with_cell_count : (F : Field) (cell : Cell) → is_open F cell ≡ true → cell_count (with_cell_at F cell) 23 ≡ cell_count F 23 + 1
 unfolding is_open
-place_count F (pos x, pos y) opened = search (rules, and_parts, placed, cell_count-with, leb-true, not-true)
-place_count F (pos x, negsuc y) opened = absurd (false≢true opened)
-place_count F (negsuc x, pos y) opened = absurd (false≢true opened)
-place_count F (negsuc x, negsuc y) opened = absurd (false≢true opened)
+with_cell_count F (pos x, pos y) opened = search (rules, and_parts, placed, cell_count-with, leb-true, not-true)
+with_cell_count F (pos x, negsuc y) opened = absurd (false≢true opened)
+with_cell_count F (negsuc x, pos y) opened = absurd (false≢true opened)
+with_cell_count F (negsuc x, negsuc y) opened = absurd (false≢true opened)
 
-added_count : (F : Field) (cells : List Cell) → list_all (is_open F) cells ≡ true → are_distinct cells ≡ true → cell_count (added F cells) 23 ≡ cell_count F 23 + length cells
+with_cells_count : (F : Field) (cells : List Cell) → list_all (is_open F) cells ≡ true → are_distinct cells ≡ true → cell_count (with_cells F cells) 23 ≡ cell_count F 23 + length cells
 unfolding are_distinct
-added_count F [] opened distinct = omega (arith, ap (λ G. cell_count G 23) (added-nil F))
-added_count F (c ∷ cs) opened distinct =
-    search (rules, and_parts, added-cons, place_count, all_still_open, (added_count (with_place F c) cs))
+with_cells_count F [] opened distinct = omega (arith, ap (λ G. cell_count G 23) (with_cells-nil F))
+with_cells_count F (c ∷ cs) opened distinct =
+    search (rules, and_parts, with_cells-cons, with_cell_count, all_still_open, (with_cells_count (with_cell_at F c) cs))
 
 together_count : (F : Field) (q : Placement) → is_free F q ≡ true → cell_count (together F q) 23 ≡ cell_count F 23 + 4
-unfolding together added is_free_at
+unfolding together with_cells is_free_at
 together_count F q free =
-    omega (arith, added_count F (cells_of q) free (moved_distinct (pivot_of q) (shape q.piece q.rotation) (shapes_distinct q.piece q.rotation)), cells_length q)
+    omega (arith, with_cells_count F (cells_of q) free (moved_distinct (pivot_of q) (shape q.piece q.rotation) (shapes_distinct q.piece q.rotation)), cells_length q)
 
 pub adds_four_cells : AddsFourCells
 unfolding locked rows_removed
@@ -135,7 +131,7 @@ below_cell q height x y below above = search (rules, false_from_ne_true, ltb-tru
 
 -- no cell stands above the height once the placement is there
 pub together_below : (F : Field) (q : Placement) (height : ℕ) → LiesBelow F height → is_below height q ≡ true → (x y : ℕ) → height ≤ y → together F q x y ≡ false
-unfolding together
+unfolding together with_cells
 together_below F q height below placed x y above = or_from _ _ (below.none x y above) (below_cell q height x y placed above)
 
 pub full_below_height : (G : Field) (height : ℕ) → height ≤ 23 → ((x y : ℕ) → height ≤ y → G x y ≡ false) → full_below G 23 ≡ full_below G height

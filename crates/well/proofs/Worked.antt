@@ -11,7 +11,7 @@ use Rattle.lane_board.specs.CellCount.{cell_count, row_count}
 use Rattle.well.specs.declared.rows.RowsFault.TheVariants.{BadRowChar, BadRowLength}
 use Rattle.well.specs.Counts.{lowest_filled_from, is_filled_row}
 use Rattle.well.specs.Free.{is_open, is_free_at, is_free}
-use Rattle.well.specs.Lock.{together, locked, rows_removed}
+use Rattle.well.specs.Lock.{with_cells, together, locked, rows_removed}
 use Rattle.well.specs.Rows.{fault_from, rows_fault, written_cells}
 
 -- `X` and `_`
@@ -50,11 +50,11 @@ unfolding is_free_at is_open moved
 line_is_free = refl
 
 line_fills_a_row : rows_removed sample line ≡ 1
-unfolding rows_removed together full_below is_full is_among moved
+unfolding rows_removed together with_cells full_below is_full is_among moved
 line_fills_a_row = refl
 
 six_cells_are_left : cell_count (locked sample line) 23 ≡ 6
-unfolding cell_count row_count locked together without_full_rows full_below is_full is_among moved
+unfolding cell_count row_count locked together with_cells without_full_rows full_below is_full is_among moved
 six_cells_are_left = refl
 
 none_in_row_2 : lowest_filled_from sample 2 ≡ None

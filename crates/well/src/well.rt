@@ -23,7 +23,7 @@ impl Well {
     ghost use Rattle.lane_board.specs.FullRows.{full_below, without_full_rows};
     ghost use Rattle.srs.specs.Cells.{in_well};
     ghost use Rattle.well.specs.Free.{is_open, is_free};
-    ghost use Rattle.well.specs.Lock.{with_place, together, locked, rows_removed};
+    ghost use Rattle.well.specs.Lock.{with_cell_at, together, locked, rows_removed};
     ghost use Rattle.well.specs.Rows.{rows_fault, written_cells};
 
     /// The well without cells.
@@ -148,7 +148,7 @@ impl Well {
     #[inline(always)]
     fn fill_cell(&mut self, cell: (i8, i8))
         requires { IsTrue (in_well cell) }
-        ensures { filled self.new ≡ with_place (filled self.old) cell }
+        ensures { filled self.new ≡ with_cell_at (filled self.old) cell }
     {
         let (x, y) = cell;
         self.board.fill(x as u8, y as u8);

@@ -6,7 +6,7 @@ use Rattle.srs.proofs.CallerLemmas.{list_all_each, cells_length}
 use Rattle.lane_board.specs.Field.{Field}
 use Rattle.std.specs.Prelude.{List}
 use Rattle.well.specs.Free.{is_free}
-use Rattle.well.specs.Lock.{with_place}
+use Rattle.well.specs.Lock.{with_cell_at}
 use Rattle.well.specs.Well.{filled}
 use Rattle.well.proofs.FreeLemmas.{free_inside, free_pivot_inside}
 use Rattle.well.proofs.LockLemmas.{together_of}
@@ -36,7 +36,7 @@ fill_cell-requires-4 c = each_in_well _ c.args.placement.now c.cells.result 3 c.
 pub returns : goal.returns
 returns c =
     c.fill_cell-4.ensures
-    ∙ ap (λ F. with_place F (get_or c.cells.result 3 (pos 0, pos 0))) (c.fill_cell-3.ensures
-    ∙ ap (λ F. with_place F (get_or c.cells.result 2 (pos 0, pos 0))) (c.fill_cell-2.ensures
-    ∙ ap (λ F. with_place F (get_or c.cells.result 1 (pos 0, pos 0))) c.fill_cell.ensures))
+    ∙ ap (λ F. with_cell_at F (get_or c.cells.result 3 (pos 0, pos 0))) (c.fill_cell-3.ensures
+    ∙ ap (λ F. with_cell_at F (get_or c.cells.result 2 (pos 0, pos 0))) (c.fill_cell-2.ensures
+    ∙ ap (λ F. with_cell_at F (get_or c.cells.result 1 (pos 0, pos 0))) c.fill_cell.ensures))
     ∙ together_of (filled c.args.self.now) c.args.placement.now c.cells.result (pos 0, pos 0) c.cells.ensures

@@ -5,7 +5,7 @@ use mir.Syntax.{w8}
 use mir.Val.{to_z, of_z}
 use Rattle.srs.specs.Cells.{Cell}
 use Rattle.srs.proofs.CallerLemmas.{in_well-place}
-use Rattle.well.specs.Lock.{with_place}
+use Rattle.well.specs.Lock.{with_cell_at}
 use Rattle.well.specs.Well.{filled}
 use Rattle.well.proofs.LockLemmas.{placed}
 use Rattle.well.proofs.WellFields.{with_cell-other_row}
@@ -27,4 +27,4 @@ returns c =
     let b : c.args.cell.1 ≡ pos lies.y = ap (λ (c : Cell). c.1) lies.is in
     let x : pos (nat_abs (to_z w8 (of_z w8 c.args.cell.0))) ≡ c.args.cell.0 = omega (arith, ints, lies.in_columns) in
     let y : pos (nat_abs (to_z w8 (of_z w8 c.args.cell.1))) ≡ c.args.cell.1 = omega (arith, ints, lies.in_rows) in
-    c.fill.ensures ∙ sym (placed (filled c.args.self.now) _ _) ∙ (λ i. with_place (filled c.args.self.now) (x i, y i))
+    c.fill.ensures ∙ sym (placed (filled c.args.self.now) _ _) ∙ (λ i. with_cell_at (filled c.args.self.now) (x i, y i))
