@@ -15,7 +15,7 @@ use Rattle.srs.proofs.CallerLemmas.{filter-false, filter-true, cell_eq-decides, 
 use Rattle.srs.specs.declared.placement.Placement.{Placement}
 use Rattle.srs.specs.Cells.{Cell, in_well, cells_of}
 use Rattle.srs.specs.SameCells.{cell_eq, is_among}
-use Rattle.well.specs.Lock.{together}
+use Rattle.well.specs.Lock.{with_cells, together}
 use Rattle.fumen_digits.specs.declared.dialect.Dialect.TheVariants.{V115}
 use Rattle.fumen_pages.specs.Cells.{place_of}
 use Rattle.fumen_pages.specs.Next.{rows_in, empty_row, marked, is_full_page_row, without_full}
@@ -139,34 +139,32 @@ shows_one F a b value cells column row is shows =
       garbage = drop-set-lt 230 cells place value (omega arith) ∙ shows.garbage;
     }
 
--- the cells of a list are filled
-unfoldable added : Field → List Cell → Field
-added F cells x y = F x y || is_among cells (pos x, pos y)
+-- ---- the cells of a list are filled
 
 or_assoc : (a b c : Bool) → ((a || b) || c) ≡ (a || (b || c))
 or_assoc a b c = search rules
 
-added-nil : (F : Field) → F ≡ added F []
-unfolding added is_among
-added-nil F = fun_ext (λ x. fun_ext (λ y. sym (or_none (F x y) false refl)))
+with_cells-nil : (F : Field) → F ≡ with_cells F []
+unfolding with_cells is_among
+with_cells-nil F = fun_ext (λ x. fun_ext (λ y. sym (or_none (F x y) false refl)))
 
-added-cons : (F : Field) (cell : Cell) (cells : List Cell) → added (with_one F cell) cells ≡ added F (cell ∷ cells)
-unfolding added is_among
-added-cons F cell cells = fun_ext (λ x. fun_ext (λ y. or_assoc (F x y) (cell_eq cell (pos x, pos y)) (is_among cells (pos x, pos y))))
+with_cells-cons : (F : Field) (cell : Cell) (cells : List Cell) → with_cells (with_one F cell) cells ≡ with_cells F (cell ∷ cells)
+unfolding with_cells is_among
+with_cells-cons F cell cells = fun_ext (λ x. fun_ext (λ y. or_assoc (F x y) (cell_eq cell (pos x, pos y)) (is_among cells (pos x, pos y))))
 
 shows_all : (value : ℕ) (some : List Cell) (F : Field) (cells : List ℕ) → is_cell value ≡ true → list_all in_well some ≡ true → Shows cells F
-    → Shows (fold (λ before cell. set before (place_of V115 cell) value) cells some) (added F some)
-shows_all value [] F cells is inside shows = subst (Shows cells) (added-nil F) shows
+    → Shows (fold (λ before cell. set before (place_of V115 cell) value) cells some) (with_cells F some)
+shows_all value [] F cells is inside shows = subst (Shows cells) (with_cells-nil F) shows
 shows_all value (cell ∷ some) F cells is inside shows =
     let parts = and_parts (in_well cell) (list_all in_well some) inside in
     let at = in_well-place cell parts.0 in
     let one : Shows (set cells (place_of V115 cell) value) (with_one F cell) =
     subst (λ (c : Cell). Shows (set cells (place_of V115 c) value) (with_one F c)) (sym at.is) (shows_one F at.x at.y value cells at.in_columns at.in_rows is shows) in
-    subst (Shows (fold (λ before cell. set before (place_of V115 cell) value) cells (cell ∷ some))) (added-cons F cell some)
+    subst (Shows (fold (λ before cell. set before (place_of V115 cell) value) cells (cell ∷ some))) (with_cells-cons F cell some)
     (shows_all value some (with_one F cell) (set cells (place_of V115 cell) value) is parts.1 one)
 
 pub shows_marked : (F : Field) (q : Placement) (value : ℕ) (cells : List ℕ) → is_cell value ≡ true → list_all in_well (cells_of q) ≡ true → Shows cells F → Shows (marked q value cells) (together F q)
-unfolding marked together added
+unfolding marked together with_cells
 shows_marked F q value cells is inside shows = shows_all value (cells_of q) F cells is inside shows
 
 -- ---- full rows go
