@@ -5,7 +5,7 @@ ghost use Rattle.hands.specs.BlockHands.{AreHands, in_block};
 ghost use Rattle.hands.specs.Blocks.{ending_of, key_of};
 ghost use Rattle.hands.specs.Hands.{with_first, with_second};
 
-use lane_board::words::{bits_of_both, has_bit};
+use lane_board::words::{bits_of_either, has_bit};
 
 /// Hands that differ in their last two pieces alone. The key has the pieces before these two, and a 1 behind them. Bit
 /// `k` of the endings is set if the hand is there whose last two pieces have the number `k`. Hands of fewer than three
@@ -53,7 +53,7 @@ pub(crate) fn seconds(pairs: u64, code: u64) -> u64
     let mut found = 0;
     for second in 0..8u16 {
         if has_bit(pairs, second * 8 + code as u16) {
-            found = bits_of_both(found, 1 << second);
+            found = bits_of_either(found, 1 << second);
         }
     }
     found
@@ -68,7 +68,7 @@ pub(crate) fn pairs_with(code: u64, seconds: u64) -> u64
     let mut pairs = 0;
     for second in 0..8u16 {
         if has_bit(seconds, second) {
-            pairs = bits_of_both(pairs, 1 << (second * 8 + code as u16));
+            pairs = bits_of_either(pairs, 1 << (second * 8 + code as u16));
         }
     }
     pairs

@@ -7,7 +7,7 @@ ghost use Rattle.hands.specs.Blocks.{have_parts};
 ghost use Rattle.hands.specs.Numbers.{has_number};
 
 use crate::block::{Block, split, unit_of};
-use lane_board::words::{bits_of_both, bits_without, has_bit, lowest_bit, without_lowest};
+use lane_board::words::{bits_of_either, bits_without, has_bit, lowest_bit, without_lowest};
 use pc_outside::NoMemory;
 use std::alloc::Global;
 
@@ -69,7 +69,7 @@ fn gathered(alloc: Global, numbers: &[u64]) -> Result<Vec<Block>, NoMemory>
         let endings = 1 << ending;
         let count = v.len();
         if count > 0 && v[count - 1].key == key {
-            v[count - 1].endings = bits_of_both(v[count - 1].endings, endings);
+            v[count - 1].endings = bits_of_either(v[count - 1].endings, endings);
         } else {
             v.push(Block { key, endings })?;
         }
@@ -216,7 +216,7 @@ impl HandSet {
             return Ok(self.blocks.push(block)?);
         }
         if self.blocks[count - 1].key == block.key {
-            self.blocks[count - 1].endings = bits_of_both(
+            self.blocks[count - 1].endings = bits_of_either(
                 self.blocks[count - 1].endings,
                 block.endings,
             );
@@ -239,7 +239,7 @@ impl HandSet {
             index -= 1;
         }
         if self.blocks[index].key == block.key {
-            self.blocks[index].endings = bits_of_both(self.blocks[index].endings, block.endings);
+            self.blocks[index].endings = bits_of_either(self.blocks[index].endings, block.endings);
             return Ok(());
         }
         Ok(self.blocks.insert(index, block)?)

@@ -9,7 +9,7 @@ ghost use Rattle.hands.specs.HandSets.{has};
 use crate::block::{Block, pairs_with, seconds};
 use crate::hand_set::{HandSet, endings_at};
 use hold_queue::Hold;
-use lane_board::words::{bits_of_both, bits_without};
+use lane_board::words::{bits_of_either, bits_without};
 use pc_outside::NoMemory;
 use srs::Piece;
 use std::alloc::Global;
@@ -115,7 +115,7 @@ impl HandSet {
         for block in &self.blocks {
             let mut leading = leading_by_first(rests, &mut first, block.key, code);
             if let Hold::Allowed = hold {
-                leading = bits_of_both(
+                leading = bits_of_either(
                     leading,
                     leading_by_second(rests, &mut second, block.key, code),
                 );

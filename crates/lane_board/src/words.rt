@@ -43,9 +43,9 @@ pub fn bits_without(word: u64, others: u64) -> u64
     word ^ (word & others)
 }
 
-/// The bits of two words.
+/// The bits that either word has.
 #[inline(always)]
-pub fn bits_of_both(one: u64, other: u64) -> u64
+pub fn bits_of_either(one: u64, other: u64) -> u64
     ensures { (k : ℕ) → has_bit result k ≡ (has_bit one k || has_bit other k) }
 {
     one | other

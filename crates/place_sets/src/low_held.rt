@@ -10,7 +10,7 @@ use crate::scan::rotation_at;
 use crate::tops::rows_left;
 use crate::words::{bits_under, four_rows};
 use lane_board::LaneBoard;
-use lane_board::words::{bits_of_both, bits_without, has_none, lowest_bit, without_lowest};
+use lane_board::words::{bits_of_either, bits_without, has_none, lowest_bit, without_lowest};
 use srs::{Piece, Placement};
 
 /// Canonical placements of one piece with the pivot in rows 0 to 7.
@@ -132,9 +132,9 @@ impl LowPlaces {
         ensures { IsTrue result ↔ ((q : Placement) → holds self.now q ≡ false) }
     {
         let [a, b, c, d, e, f, g, h] = self.words;
-        let four = bits_of_both(bits_of_both(bits_of_both(a, b), c), d);
-        let others = bits_of_both(bits_of_both(bits_of_both(e, f), g), h);
-        has_none(bits_of_both(four, others))
+        let four = bits_of_either(bits_of_either(bits_of_either(a, b), c), d);
+        let others = bits_of_either(bits_of_either(bits_of_either(e, f), g), h);
+        has_none(bits_of_either(four, others))
     }
 
     /// Removes the least placement and returns it. `None` exactly if there is none.

@@ -11,8 +11,8 @@ pub loop-second-preserved : goal.loop-second-preserved
 loop-second-preserved c = λ k. elim c.if-has_bit.branch [
   | then-has_bit w ↦
       ap (λ n. has_bit n k) w.found-is
-      ∙ second-found c.loop-second.found w.bits_of_both-found.result (1 * 2 ^ c.loop-second.second % 2 ^ 64) c.args.pairs c.args.code c.loop-second.second k
-      (sym c.has_bit.ensures ∙ w.if-has_bit.true) (c.loop-second.invariant k) (has_bit-one c.loop-second.second k (omega arith)) (w.bits_of_both-found.ensures k)
+      ∙ second-found c.loop-second.found w.bits_of_either-found.result (1 * 2 ^ c.loop-second.second % 2 ^ 64) c.args.pairs c.args.code c.loop-second.second k
+      (sym c.has_bit.ensures ∙ w.if-has_bit.true) (c.loop-second.invariant k) (has_bit-one c.loop-second.second k (omega arith)) (w.bits_of_either-found.ensures k)
   | else-has_bit w ↦
       ap (λ n. has_bit n k) w.found-is
       ∙ second-missing c.loop-second.found c.args.pairs c.args.code c.loop-second.second k (sym c.has_bit.ensures ∙ w.if-has_bit.false) (c.loop-second.invariant k)

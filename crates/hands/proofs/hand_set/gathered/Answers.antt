@@ -24,8 +24,8 @@ loop-number-preserved c =
           let within : c.len-count.result - 1 < length blocks = omega arith in
           rw w.v-is
           (gather-join numbers blocks i (c.len-count.result - 1) _ (made key (one_bit ending)) _ c.loop-number.invariant c.loop-number-test.true hands is
-          (joins blocks (c.len-count.result - 1) w.index_mut.result.now w.index-then-index-key.result.now w.index.result.now (made key (one_bit ending)) w.bits_of_both.result within
-          w.index_mut.ensures.value w.index-then-index-key.ensures w.index.ensures w.if-index-key.true w.bits_of_both.ensures))
+          (joins blocks (c.len-count.result - 1) w.index_mut.result.now w.index-then-index-key.result.now w.index.result.now (made key (one_bit ending)) w.bits_of_either.result within
+          w.index_mut.ensures.value w.index-then-index-key.ensures w.index.ensures w.if-index-key.true w.bits_of_either.ensures))
       | else-count-gt0+in_ok-push w ↦
           rw w.v-is
           (gather-push numbers blocks w.push.new.self.items i (made key (one_bit ending)) c.loop-number.invariant c.loop-number-test.true hands is w.in_ok-push.ensures.items)

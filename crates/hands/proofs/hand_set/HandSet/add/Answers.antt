@@ -40,8 +40,8 @@ invariant_of-self-then-index-block-2 c =
     let items = c.args.self.now.blocks.items in
     let last = c.len-count.result - 1 in
     let within : last < length items = omega arith in
-    let join = joins items last c.index_mut.result.now c.index-then-index-block-2.result.now c.index-2.result.now c.args.block c.bits_of_both.result within
-    c.index_mut.ensures.value c.index-then-index-block-2.ensures c.index-2.ensures c.if-index-block-2.true c.bits_of_both.ensures in
+    let join = joins items last c.index_mut.result.now c.index-then-index-block-2.result.now c.index-2.result.now c.args.block c.bits_of_either.result within
+    c.index_mut.ensures.value c.index-then-index-block-2.ensures c.index-2.ensures c.if-index-block-2.true c.bits_of_either.ensures in
     record {
       rises = joined-order items last c.index_mut.result.now c.args.block _ c.args.self.now.rises join;
       each = joined-each items last c.index_mut.result.now c.args.block _ c.args.self.now.each c.requires join;
@@ -53,8 +53,8 @@ returns-then-index-block-2-clause-added c = λ hand.
     let items = c.args.self.now.blocks.items in
     let last = c.len-count.result - 1 in
     let within : last < length items = omega arith in
-    let join = joins items last c.index_mut.result.now c.index-then-index-block-2.result.now c.index-2.result.now c.args.block c.bits_of_both.result within
-    c.index_mut.ensures.value c.index-then-index-block-2.ensures c.index-2.ensures c.if-index-block-2.true c.bits_of_both.ensures in
+    let join = joins items last c.index_mut.result.now c.index-then-index-block-2.result.now c.index-2.result.now c.args.block c.bits_of_either.result within
+    c.index_mut.ensures.value c.index-then-index-block-2.ensures c.index-2.ensures c.if-index-block-2.true c.bits_of_either.ensures in
     joined-parts items last c.index_mut.result.now c.args.block _ (key_of hand) (ending_of hand) join
     ∙ ap (λ b. have_parts items (key_of hand) (ending_of hand) || b) (parts-one c.args.block hand)
 

@@ -14,8 +14,8 @@ loop-index-init c = at-last c.args.self.now.blocks.items _ c.args.block.key c.re
 pub invariant_of-self : goal.invariant_of-self
 invariant_of-self c =
     let items = c.args.self.now.blocks.items in
-    let join = joins items c.loop-index.index c.index_mut.result.now c.index-then-index-block-2.result.now c.index-2.result.now c.args.block c.bits_of_both.result c.loop-index.invariant.within
-    c.index_mut.ensures.value c.index-then-index-block-2.ensures c.index-2.ensures c.if-index-block-2.true c.bits_of_both.ensures in
+    let join = joins items c.loop-index.index c.index_mut.result.now c.index-then-index-block-2.result.now c.index-2.result.now c.args.block c.bits_of_either.result c.loop-index.invariant.within
+    c.index_mut.ensures.value c.index-then-index-block-2.ensures c.index-2.ensures c.if-index-block-2.true c.bits_of_either.ensures in
     record {
       rises = joined-order items c.loop-index.index c.index_mut.result.now c.args.block _ c.args.self.now.rises join;
       each = joined-each items c.loop-index.index c.index_mut.result.now c.args.block _ c.args.self.now.each c.requires.block.hands join;
@@ -25,8 +25,8 @@ pub returns-then-index-block-2-clause-added : goal.returns-then-index-block-2-cl
 unfolding has
 returns-then-index-block-2-clause-added c = λ hand.
     let items = c.args.self.now.blocks.items in
-    let join = joins items c.loop-index.index c.index_mut.result.now c.index-then-index-block-2.result.now c.index-2.result.now c.args.block c.bits_of_both.result c.loop-index.invariant.within
-    c.index_mut.ensures.value c.index-then-index-block-2.ensures c.index-2.ensures c.if-index-block-2.true c.bits_of_both.ensures in
+    let join = joins items c.loop-index.index c.index_mut.result.now c.index-then-index-block-2.result.now c.index-2.result.now c.args.block c.bits_of_either.result c.loop-index.invariant.within
+    c.index_mut.ensures.value c.index-then-index-block-2.ensures c.index-2.ensures c.if-index-block-2.true c.bits_of_either.ensures in
     joined-parts items c.loop-index.index c.index_mut.result.now c.args.block _ (key_of hand) (ending_of hand) join
     ∙ ap (λ b. have_parts items (key_of hand) (ending_of hand) || b) (parts-one c.args.block hand)
 

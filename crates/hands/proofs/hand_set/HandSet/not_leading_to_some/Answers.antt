@@ -19,9 +19,9 @@ add-requires c =
     let test_is : (hand : ℕ) → key_of hand ≡ block.key → has_bit c.match-hold.leading (ending_of hand) ≡ test hand = λ hand is.
     elim c.match-hold.branch [
       | in-Allowed w ↦
-          leads-allowed c.args.hold c.from-code.result (piece_code c.args.piece) c.match-hold.leading w.bits_of_both-leading.result
+          leads-allowed c.args.hold c.from-code.result (piece_code c.args.piece) c.match-hold.leading w.bits_of_either-leading.result
           c.leading_by_first-leading.result w.leading_by_second.result hand c.args.rests.now w.in-Allowed.is code_is w.leading-is
-          (w.bits_of_both-leading.ensures (ending_of hand)) (c.leading_by_first-leading.ensures hand is) (w.leading_by_second.ensures hand is)
+          (w.bits_of_either-leading.ensures (ending_of hand)) (c.leading_by_first-leading.ensures hand is) (w.leading_by_second.ensures hand is)
       | in_default w ↦
           leads-avoided c.args.hold c.from-code.result (piece_code c.args.piece) c.match-hold.leading c.leading_by_first-leading.result hand c.args.rests.now
           w.in_default.is code_is w.leading-is (c.leading_by_first-leading.ensures hand is)
@@ -43,9 +43,9 @@ loop-block-preserved c =
     let test_is : (hand : ℕ) → key_of hand ≡ block.key → has_bit c.match-hold.leading (ending_of hand) ≡ test hand = λ hand is.
     elim c.match-hold.branch [
       | in-Allowed w ↦
-          leads-allowed c.args.hold c.from-code.result (piece_code c.args.piece) c.match-hold.leading w.bits_of_both-leading.result
+          leads-allowed c.args.hold c.from-code.result (piece_code c.args.piece) c.match-hold.leading w.bits_of_either-leading.result
           c.leading_by_first-leading.result w.leading_by_second.result hand c.args.rests.now w.in-Allowed.is code_is w.leading-is
-          (w.bits_of_both-leading.ensures (ending_of hand)) (c.leading_by_first-leading.ensures hand is) (w.leading_by_second.ensures hand is)
+          (w.bits_of_either-leading.ensures (ending_of hand)) (c.leading_by_first-leading.ensures hand is) (w.leading_by_second.ensures hand is)
       | in_default w ↦
           leads-avoided c.args.hold c.from-code.result (piece_code c.args.piece) c.match-hold.leading c.leading_by_first-leading.result hand c.args.rests.now
           w.in_default.is code_is w.leading-is (c.leading_by_first-leading.ensures hand is)
