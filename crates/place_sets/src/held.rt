@@ -4,7 +4,7 @@ ghost use Rattle.std.specs.Prelude.{◌≡◌};
 use crate::numbers::Numbers;
 use crate::pivots::Pivots;
 use crate::scan::{first_state, state_with};
-use crate::tops::rows_left;
+use crate::tops::pivot_bounds;
 use srs::{Piece, Placement};
 
 /// The canonical placements of one piece that a flood found.
@@ -83,7 +83,7 @@ impl Places {
     {
         Places {
             piece: self.piece,
-            numbers: self.numbers.in_rows_below(rows_left(self.piece, rows)),
+            numbers: self.numbers.in_rows_below(pivot_bounds(self.piece, rows)),
         }
     }
 }

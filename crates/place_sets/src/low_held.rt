@@ -7,7 +7,7 @@ ghost use Rattle.srs.specs.Rotation.{rotation_index};
 
 use crate::pivots::Pivots;
 use crate::scan::rotation_at;
-use crate::tops::rows_left;
+use crate::tops::pivot_bounds;
 use crate::words::{bits_under, four_rows};
 use lane_board::LaneBoard;
 use lane_board::words::{bits_of_either, bits_without, has_none, lowest_bit, without_lowest};
@@ -95,17 +95,17 @@ impl LowPlaces {
         ensures held { (q : Placement) → IsTrue (holds result q)
             ↔ ((q.piece ≡ piece) × IsTrue (has_state (states_of states.now) q) × IsTrue (is_below rows q)) }
     {
-        let left = rows_left(piece, rows);
+        let bounds = pivot_bounds(piece, rows);
         LowPlaces {
             words: [
-                rows_under(&states.spawn, 0, left[0]),
-                rows_under(&states.spawn, 1, left[0]),
-                rows_under(&states.right, 0, left[1]),
-                rows_under(&states.right, 1, left[1]),
-                rows_under(&states.reverse, 0, left[2]),
-                rows_under(&states.reverse, 1, left[2]),
-                rows_under(&states.left, 0, left[3]),
-                rows_under(&states.left, 1, left[3]),
+                rows_under(&states.spawn, 0, bounds[0]),
+                rows_under(&states.spawn, 1, bounds[0]),
+                rows_under(&states.right, 0, bounds[1]),
+                rows_under(&states.right, 1, bounds[1]),
+                rows_under(&states.reverse, 0, bounds[2]),
+                rows_under(&states.reverse, 1, bounds[2]),
+                rows_under(&states.left, 0, bounds[3]),
+                rows_under(&states.left, 1, bounds[3]),
             ],
             kind: kind_of(piece),
         }

@@ -7,10 +7,10 @@ ghost use Rattle.place_sets.specs.Tops.{rows_over_pivot};
 use srs::{Piece, Rotation};
 
 /// For each rotation, the row that a pivot lies below exactly if all cells of the piece lie below row `rows`.
-pub(crate) fn rows_left(piece: Piece, rows: u8) -> [u8; 4]
+pub(crate) fn pivot_bounds(piece: Piece, rows: u8) -> [u8; 4]
     ensures four { length result ≡ 4 }
     ensures few { (index : ℕ) → index < 4 → slice_index result index ≤ rows }
-    ensures left { (rotation : Rotation) → slice_index result (rotation_index rotation)
+    ensures bounds { (rotation : Rotation) → slice_index result (rotation_index rotation)
         ≡ rows - rows_over_pivot piece rotation }
 {
     [

@@ -1,4 +1,4 @@
--- The rows of each rotation that the highest cell leaves.
+-- The bounds of the pivots of each rotation.
 use Rattle.std.proofs.Common.{refl}
 use Rattle.place_sets.specs.Places.{piece_of}
 use Rattle.place_sets.proofs.TakeLemmas.{below_held}
@@ -9,4 +9,4 @@ unfolding piece_of
 returns-clause-piece c = refl
 
 pub returns-clause-held : goal.returns-clause-held
-returns-clause-held c = below_held c.args.self.now _ c.args.rows c.rows_left.result refl c.rows_left.ensures.left c.in_rows_below.ensures
+returns-clause-held c = below_held c.args.self.now _ c.args.rows c.pivot_bounds.result refl c.pivot_bounds.ensures.bounds c.in_rows_below.ensures

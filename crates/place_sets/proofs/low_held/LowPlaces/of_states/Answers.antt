@@ -12,6 +12,6 @@ returns-clause-piece g c = indexed_piece _ c.args.piece c.kind_of.ensures
 pub returns-clause-held : goal.returns-clause-held
 unfolding states_of
 returns-clause-held g c =
-    eight_filled _ c.args.piece (states_of c.args.states.now) c.args.rows c.rows_left-left.result c.requires (λ (r : Rotation). states_within c.args.states.now r) c.rows_left-left.ensures.left
+    eight_filled _ c.args.piece (states_of c.args.states.now) c.args.rows c.pivot_bounds-bounds.result c.requires (λ (r : Rotation). states_within c.args.states.now r) c.pivot_bounds-bounds.ensures.bounds
     c.rows_under.ensures c.rows_under-2.ensures c.rows_under-3.ensures c.rows_under-4.ensures c.rows_under-5.ensures c.rows_under-6.ensures c.rows_under-7.ensures c.rows_under-8.ensures
     (indexed_piece _ c.args.piece c.kind_of.ensures)
