@@ -1,4 +1,4 @@
--- Pivots: each placement of a piece has a bit of its own.
+-- Words of pivots: each placement of a piece has a bit of its own.
 use Rattle.std.proofs.Common.{◌≡◌, ◌≢◌, ℕ, ◌+◌, ◌*◌, ◌/◌, ◌%◌, ◌^◌, ◌<◌, ◌≤◌, true, false, ◌&&◌, ◌||◌, ◌==◌, nat_lt, bit_or, List, length, replicate, set, get_or, arith, rules}
 use Rattle.std.proofs.lemmas.Bool.{both_ways, cases_eq, cases_lt, and_parts, and_from, or_cases, or_left, or_right, eq-eqb, eqb-true, lt-ltb, ltb-true}
 use Rattle.std.proofs.lemmas.List.{get_or-replicate, get_or-set_same, get_or-set_other, get_or_past}
@@ -9,8 +9,8 @@ use Rattle.srs.specs.declared.placement.Placement.{Placement}
 use Rattle.srs.specs.declared.rotation.Rotation.{Rotation}
 use Rattle.srs.specs.Rotation.{rotation_index}
 use Rattle.srs.proofs.CallerLemmas.{rotation_index-injective, rotation_index-small}
-use Rattle.empty_cells.specs.declared.pivots.Pivots.{Pivots}
-use Rattle.empty_cells.specs.Pivots.{has_pivot}
+use Rattle.empty_cells.specs.declared.pivot_words.PivotWords.{PivotWords}
+use Rattle.empty_cells.specs.PivotWords.{has_placement}
 use Rattle.empty_cells.proofs.SentLemmas.{one_bit}
 
 -- the word of a placement, and the index of its bit there
@@ -27,9 +27,9 @@ bits_at words q = get_or words (word_of q) 0
 abbrev pub with_bit : List ℕ → ℕ → ℕ → List ℕ
 with_bit words word bit = set words word (bit_or (get_or words word 0) (1 * 2 ^ bit % 2 ^ 64))
 
-module _ (p : Pivots) (whole : length p.rotations ≡ 8) (q : Placement) (column : q.x ≤ 9) (row : q.y ≤ 7)
+module _ (p : PivotWords) (whole : length p.rotations ≡ 8) (q : Placement) (column : q.x ≤ 9) (row : q.y ≤ 7)
     (word bit : ℕ) (is_word : word ≡ word_of q) (is_bit : bit ≡ bit_of q) where
-  abbrev pub after : Pivots
+  abbrev pub after : PivotWords
   after = record { rotations = with_bit p.rotations word bit }
 
   within : word < length p.rotations
@@ -45,16 +45,16 @@ module _ (p : Pivots) (whole : length p.rotations ≡ 8) (q : Placement) (column
   bits_there : (r : Placement) → word_of r ≢ word → bits_at (with_bit p.rotations word bit) r ≡ bits_at p.rotations r
   bits_there r other = get_or-set_other p.rotations word (word_of r) _ 0 other
 
-  pub has_added : has_pivot after q ≡ true
-  unfolding has_pivot cells_of_words
+  pub has_added : has_placement after q ≡ true
+  unfolding has_placement cells_of_words
   has_added = search (rules, and_from, lt-ltb, bits_here, or_right, eq-eqb)
 
-  pub keeps_added : (r : Placement) → has_pivot p r ≡ true → has_pivot after r ≡ true
-  unfolding has_pivot cells_of_words
+  pub keeps_added : (r : Placement) → has_placement p r ≡ true → has_placement after r ≡ true
+  unfolding has_placement cells_of_words
   keeps_added r has = search (rules, (in_reach r), (and_parts (nat_lt r.x 16 && nat_lt r.y 8)), and_from, (cases_eq (word_of r)), (bits_here r), or_left, (bits_there r))
 
-  pub only_added : (r : Placement) → r.piece ≡ q.piece → has_pivot after r ≡ true → has_pivot p r ≡ false → r ≡ q
-  unfolding has_pivot cells_of_words
+  pub only_added : (r : Placement) → r.piece ≡ q.piece → has_placement after r ≡ true → has_placement p r ≡ false → r ≡ q
+  unfolding has_placement cells_of_words
   only_added r piece has none =
       search (rules, (and_parts (nat_lt r.x 16 && nat_lt r.y 8)), (cases_eq (word_of r)), or_cases, (bits_here r), (in_reach r), both_ways, and_from, eqb-true, rotation_index-injective, (bits_there r))
 

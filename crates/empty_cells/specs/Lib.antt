@@ -1,7 +1,7 @@
 -- What a reader must believe
 pub mod Empties
 -- What contracts cite beside these: views of values, parts, readings and tests
-pub mod Pivots
+pub mod PivotWords
 pub mod SupplyWords
 pub mod Spans
 pub mod ShiftedCells

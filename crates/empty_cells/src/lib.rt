@@ -5,7 +5,7 @@ mod columns;
 mod empties;
 mod forms;
 mod hash;
-mod pivots;
+mod pivot_words;
 mod placed;
 mod rows;
 mod sent;
@@ -15,7 +15,7 @@ mod supply;
 
 pub use empties::Empties;
 pub use hash::hash_of;
-pub use pivots::Pivots;
+pub use pivot_words::PivotWords;
 pub use rows::{allowed, has_row, lowest_row, without_row};
 pub use shifted::Shifted;
 pub use span::Span;

@@ -9,7 +9,7 @@ ghost use Rattle.place_sets.specs.LowPlaces.{holds, piece_of};
 ghost use Rattle.prune.specs.Tiling.{supply_in, Tiling};
 ghost use Rattle.empty_cells.specs.Empties.{empty_cells};
 ghost use Rattle.empty_cells.specs.HasTiling.{has_tiling, leaves_tiling};
-ghost use Rattle.empty_cells.specs.Pivots.{has_pivot};
+ghost use Rattle.empty_cells.specs.PivotWords.{has_placement};
 ghost use Rattle.empty_cells.specs.SupplyWords.{supply_of};
 ghost use Rattle.dead_memo.specs.Memo.{kept};
 ghost use Rattle.enumerate.specs.Settled.{IsSettled};
@@ -135,9 +135,9 @@ impl Tilings {
         ensures supply { answers.new.supply ≡ answers.old.supply }
         ensures piece { answers.new.piece ≡ answers.old.piece }
         ensures answered { (q : Placement) → IsTrue (holds places q)
-            → IsTrue (has_pivot answers.new.dead q || has_pivot answers.new.live q) }
-        ensures kept { (q : Placement) → IsTrue (has_pivot answers.old.dead q || has_pivot answers.old.live q)
-            → IsTrue (has_pivot answers.new.dead q || has_pivot answers.new.live q) }
+            → IsTrue (has_placement answers.new.dead q || has_placement answers.new.live q) }
+        ensures kept { (q : Placement) → IsTrue (has_placement answers.old.dead q || has_placement answers.old.live q)
+            → IsTrue (has_placement answers.new.dead q || has_placement answers.new.live q) }
     {
         let mut open = places;
         while let Some(placement) = open.take_least() {
@@ -164,7 +164,7 @@ impl Tilings {
             → cells_of_words result (rotation_index q.rotation) q.x q.y ≡ false
             → leaves_tiling (empty_cells answers.old.cells) q (supply_of answers.old.supply) ≡ true }
         ensures kept { (q : Placement) → q.piece ≡ answers.old.piece
-            → IsTrue (has_pivot answers.old.dead q || has_pivot answers.old.live q)
+            → IsTrue (has_placement answers.old.dead q || has_placement answers.old.live q)
             → cells_of_words result (rotation_index q.rotation) q.x q.y ≡ false
             → leaves_tiling (empty_cells answers.old.cells) q (supply_of answers.old.supply) ≡ true }
     {

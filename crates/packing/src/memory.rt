@@ -3,10 +3,10 @@ ghost use Rattle.std.specs.Prelude.{◌≡◌, ◌≤◌, ◌||◌, IfSome, IsTr
 ghost use Rattle.srs.specs.declared.placement.Placement.{Placement};
 ghost use Rattle.empty_cells.specs.Empties.{empty_cells};
 ghost use Rattle.empty_cells.specs.HasTiling.{leaves_tiling};
-ghost use Rattle.empty_cells.specs.Pivots.{has_pivot};
+ghost use Rattle.empty_cells.specs.PivotWords.{has_placement};
 ghost use Rattle.empty_cells.specs.SupplyWords.{supply_of};
 
-use empty_cells::{Empties, Pivots, SupplyWord, hash_of};
+use empty_cells::{Empties, PivotWords, SupplyWord, hash_of};
 use fact_table::{Entry, FactTable};
 use pc_outside::NoMemory;
 use srs::{Piece, Placement};
@@ -22,12 +22,12 @@ pub struct PlaceAnswers {
     pub supply: SupplyWord,
     pub piece: Piece,
     /// The placements that leave none.
-    pub dead: Pivots,
+    pub dead: PivotWords,
     /// The placements that leave one.
-    pub live: Pivots,
-    ghost live_is_true: { (q : Placement) → q.piece ≡ piece → has_pivot live q ≡ true
+    pub live: PivotWords,
+    ghost live_is_true: { (q : Placement) → q.piece ≡ piece → has_placement live q ≡ true
         → leaves_tiling (empty_cells cells) q (supply_of supply) ≡ true },
-    ghost dead_is_true: { (q : Placement) → q.piece ≡ piece → has_pivot dead q ≡ true
+    ghost dead_is_true: { (q : Placement) → q.piece ≡ piece → has_placement dead q ≡ true
         → leaves_tiling (empty_cells cells) q (supply_of supply) ≡ false },
 }
 
@@ -42,8 +42,8 @@ impl PlaceAnswers {
             cells: *cells,
             supply,
             piece,
-            dead: Pivots::none(),
-            live: Pivots::none(),
+            dead: PivotWords::none(),
+            live: PivotWords::none(),
         }
     }
 
@@ -70,9 +70,9 @@ impl PlaceAnswers {
         ensures cells { self.new.cells ≡ self.old.cells }
         ensures supply { self.new.supply ≡ self.old.supply }
         ensures piece { self.new.piece ≡ self.old.piece }
-        ensures added { IsTrue (has_pivot self.new.dead placement.now || has_pivot self.new.live placement.now) }
-        ensures kept { (q : Placement) → IsTrue (has_pivot self.old.dead q || has_pivot self.old.live q)
-            → IsTrue (has_pivot self.new.dead q || has_pivot self.new.live q) }
+        ensures added { IsTrue (has_placement self.new.dead placement.now || has_placement self.new.live placement.now) }
+        ensures kept { (q : Placement) → IsTrue (has_placement self.old.dead q || has_placement self.old.live q)
+            → IsTrue (has_placement self.new.dead q || has_placement self.new.live q) }
     {
         if answer {
             self.live.add(placement);

@@ -3,7 +3,7 @@ use Rattle.std.proofs.Common.{◌≡◌, ◌⊎◌, ◌||◌, length}
 use Rattle.std.specs.Prelude.{IsTrue, Some, None}
 use Rattle.srs.specs.declared.placement.Placement.{Placement}
 use Rattle.place_sets.specs.LowPlaces.{holds, piece_of}
-use Rattle.empty_cells.specs.Pivots.{has_pivot}
+use Rattle.empty_cells.specs.PivotWords.{has_placement}
 use Rattle.enumerate.specs.Frames.{places_left}
 use Rattle.enumerate.proofs.tilings.Tilings.answer.Given as goal
 
@@ -14,8 +14,8 @@ invariant-loop-placement l = record {
   piece : l.answers.piece ≡ l.initial.answers.piece;
   same : piece_of l.open ≡ piece_of l.initial.open;
   held : (q : Placement) → IsTrue (holds l.open q) → IsTrue (holds l.initial.open q);
-  kept : (q : Placement) → IsTrue (has_pivot l.initial.answers.dead q || has_pivot l.initial.answers.live q) → IsTrue (has_pivot l.answers.dead q || has_pivot l.answers.live q);
-  answered : (q : Placement) → IsTrue (holds l.initial.open q) → IsTrue (holds l.open q) ⊎ IsTrue (has_pivot l.answers.dead q || has_pivot l.answers.live q);
+  kept : (q : Placement) → IsTrue (has_placement l.initial.answers.dead q || has_placement l.initial.answers.live q) → IsTrue (has_placement l.answers.dead q || has_placement l.answers.live q);
+  answered : (q : Placement) → IsTrue (holds l.initial.open q) → IsTrue (holds l.open q) ⊎ IsTrue (has_placement l.answers.dead q || has_placement l.answers.live q);
 }
 
 abbrev pub decreases-loop-placement : goal.decreases-loop-placement

@@ -7,7 +7,7 @@ use srs::Placement;
 
 /// Placements of one piece with the pivot in columns 0 to 15 and rows 0 to 7.
 #[derive(Clone, Copy)]
-pub struct Pivots {
+pub struct PivotWords {
     /// Two words for each rotation, in the order 0, R, 2, L; four rows in each word, sixteen bits for each row.
     rotations: [u64; 8],
 }
@@ -25,21 +25,21 @@ fn bit_of(placement: &Placement) -> (usize, u8)
     (usize::from(word), 16 * (placement.y % 4) + placement.x)
 }
 
-impl Pivots {
+impl PivotWords {
     ghost use Rattle.lane_board.specs.Words.{cells_of_words};
-    ghost use Rattle.empty_cells.specs.Pivots.{has_pivot};
+    ghost use Rattle.empty_cells.specs.PivotWords.{has_placement};
 
     /// The empty set of placements.
-    pub fn none() -> Pivots
-        ensures { (q : Placement) → has_pivot result q ≡ false }
+    pub fn none() -> PivotWords
+        ensures { (q : Placement) → has_placement result q ≡ false }
     {
-        Pivots { rotations: [0; 8] }
+        PivotWords { rotations: [0; 8] }
     }
 
     /// Their pivots: two words for each rotation, four rows in each word, sixteen bits for each row.
     #[inline(always)]
     pub fn words(&self) -> [u64; 8]
-        ensures { (q : Placement) → has_pivot self.now q
+        ensures { (q : Placement) → has_placement self.now q
             ≡ cells_of_words result (rotation_index q.rotation) q.x q.y }
     {
         self.rotations
@@ -50,10 +50,10 @@ impl Pivots {
     pub fn add(&mut self, placement: &Placement)
         requires column { placement.now.x ≤ 9 }
         requires row { placement.now.y ≤ 7 }
-        ensures added { has_pivot self.new placement.now ≡ true }
-        ensures kept { (q : Placement) → IsTrue (has_pivot self.old q) → IsTrue (has_pivot self.new q) }
-        ensures only { (q : Placement) → q.piece ≡ placement.now.piece → IsTrue (has_pivot self.new q)
-            → has_pivot self.old q ≡ false → q ≡ placement.now }
+        ensures added { has_placement self.new placement.now ≡ true }
+        ensures kept { (q : Placement) → IsTrue (has_placement self.old q) → IsTrue (has_placement self.new q) }
+        ensures only { (q : Placement) → q.piece ≡ placement.now.piece → IsTrue (has_placement self.new q)
+            → has_placement self.old q ≡ false → q ≡ placement.now }
     {
         let (word, bit) = bit_of(placement);
         self.rotations[word] |= 1 << bit;
