@@ -7,7 +7,7 @@ use Rattle.lane_board.specs.Field.{Field, rows_below, difference}
 use Rattle.lane_board.specs.Lanes.{has_bit}
 use Rattle.lane_board.proofs.CallerLemmas.{has_bit-and, has_bit-and_not, has_bit-or, has_bit-past, has_bit-shifted_high, has_bit-shifted_low, has_bit-zero}
 use Rattle.empty_cells.specs.declared.empties.Empties.{Empties}
-use Rattle.empty_cells.specs.Empties.{empty_cells}
+use Rattle.empty_cells.specs.Empties.{cells_by_column, empty_cells}
 
 -- the lowest cell of each column
 abbrev lowest_cells : ℕ
@@ -105,5 +105,5 @@ empty-small row = xor_lt 10 1023 (bit_and 1023 row) (omega arith) (omega (arith,
 
 -- when the rows are over, all empty cells are found
 pub found-all : (F : Field) (rows y : ℕ) (e : Empties) → rows ≤ 8 → y ≡ rows → IsFound F e.cells y → empty_cells e ≡ difference (rows_below rows) F
-unfolding empty_cells difference rows_below
+unfolding empty_cells cells_by_column difference rows_below
 found-all F rows y e few last found = search (rules, fun_ext, cases_lt, lt-ltb, and_left, le-ltb, and_right, (has_bit-past e.cells 80))

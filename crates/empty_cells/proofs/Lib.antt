@@ -10,6 +10,7 @@ mod SupplyWordLemmas
 mod PivotLemmas
 mod StackLemmas
 mod RowLemmas
+mod FilledRows
 mod ChosenLemmas
 mod FormLemmas
 mod FillLemmas

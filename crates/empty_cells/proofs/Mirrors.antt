@@ -12,7 +12,7 @@ use Rattle.prune.specs.Tiling.{Supply, Tiling, is_empty_below}
 use Rattle.prune.specs.Mirror.{mirrored, mirrored_supply}
 use Rattle.prune.proofs.CallerLemmas.{kind_again, same_tiling, tiling_mirrored}
 use Rattle.empty_cells.specs.declared.empties.Empties.{Empties}
-use Rattle.empty_cells.specs.Empties.{all_but, empty_cells}
+use Rattle.empty_cells.specs.Empties.{all_but, cells_by_column, empty_cells}
 
 -- the columns below x, the last of them lowest
 pub record IsTurned (E : Field) (cells x : ℕ) : Type 0 where
@@ -52,11 +52,11 @@ turned-next E cells x rows near small here t = record {
     whole = omega (arith, moved, pow_below (8 * (x + 1)) 128 (omega arith))
 
 pub turned-all : (E : Field) (e : Empties) (x : ℕ) → x ≡ 10 → IsTurned E e.cells x → ((a b : ℕ) → 8 ≤ b → E a b ≡ false) → (a b : ℕ) → a ≤ 9 → empty_cells e a b ≡ E (9 - a) b
-unfolding empty_cells
+unfolding empty_cells cells_by_column
 turned-all E e x last t none a b near = search (rules, cases_lt, lt-ltb, and_left, le-ltb)
 
 pub none_above : (e : Empties) (a b : ℕ) → 8 ≤ b → empty_cells e a b ≡ false
-unfolding empty_cells
+unfolding empty_cells cells_by_column
 none_above e a b high = and_left _ _ (le-ltb b 8 high)
 
 pub turned-small : (E : Field) (cells x : ℕ) → x ≡ 10 → IsTurned E cells x → cells < 2 ^ 80

@@ -12,7 +12,7 @@ use Rattle.prune.specs.Counts.{column_empties, run_empties, even_column_empties}
 use Rattle.prune.specs.Walls.{IsWall}
 use Rattle.prune.proofs.CallerLemmas.{all_empties, even_columns, no_uneven_part}
 use Rattle.empty_cells.specs.declared.empties.Empties.{Empties}
-use Rattle.empty_cells.specs.Empties.{all_but, empty_cells}
+use Rattle.empty_cells.specs.Empties.{all_but, cells_by_column, empty_cells}
 use Rattle.empty_cells.specs.Refusals.{HasUnevenStart, HasWrongParity}
 use Rattle.empty_cells.proofs.ColumnBits.{ones_columns}
 
@@ -20,7 +20,7 @@ twice : (p q : Bool) → p ≡ true → q ≡ not (not (p && q))
 twice p q here = search rules
 
 is_cell : (e : Empties) (a b : ℕ) → b < 8 → has_bit e.cells (8 * a + b) ≡ not (all_but (empty_cells e) a b)
-unfolding empty_cells all_but
+unfolding empty_cells cells_by_column all_but
 is_cell e a b below = twice _ _ (lt-ltb b 8 below)
 
 -- all cells

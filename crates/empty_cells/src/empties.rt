@@ -27,12 +27,12 @@ fn spread(row: u16) -> u128
 }
 
 impl Empties {
-    ghost use Rattle.std.specs.Prelude.{◌-◌, ◌↔◌, ◌||◌, nat_le, nat_lt, not, IsTrue, MatchOption, min, sum_by};
+    ghost use Rattle.std.specs.Prelude.{◌-◌, ◌↔◌, ◌||◌, nat_le, not, IsTrue, MatchOption, min, sum_by};
     ghost use Rattle.std.specs.List.{range_with_len};
     ghost use Rattle.lane_board.specs.Field.{empty_field, difference, rows_below};
     ghost use Rattle.well.specs.Well.{filled};
     ghost use Rattle.prune.specs.Counts.{column_empties, run_empties};
-    ghost use Rattle.empty_cells.specs.Empties.{all_but, empty_cells};
+    ghost use Rattle.empty_cells.specs.Empties.{all_but, cells_by_column, empty_cells};
     ghost use Rattle.empty_cells.specs.ShiftedCells.{to_column};
     ghost use Rattle.empty_cells.specs.Spans.{from_column, has_span, without_span, HasNoCell, IsFirst};
 
@@ -61,8 +61,7 @@ impl Empties {
     #[inline(always)]
     pub fn bits(&self) -> u128
         ensures small { result < 2 ^ 80 }
-        ensures cells { (x y : ℕ) → empty_cells self.now x y
-            ≡ (nat_lt y 8 && has_bit result (8 * x + y)) }
+        ensures cells { empty_cells self.now ≡ cells_by_column result }
     {
         self.cells
     }

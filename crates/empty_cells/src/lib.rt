@@ -16,7 +16,7 @@ mod supply;
 pub use empties::Empties;
 pub use hash::hash_of;
 pub use pivot_words::PivotWords;
-pub use rows::{allowed, has_row, lowest_row, without_row};
+pub use rows::{allowed, has_row, lowest_row, rows_of, without_row};
 pub use shifted::Shifted;
 pub use span::Span;
 pub use supply::SupplyWord;

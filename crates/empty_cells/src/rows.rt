@@ -1,6 +1,8 @@
 // Sets of rows 0 to 7. Bit `y` stands for row `y`.
 ghost use Rattle.std.specs.Prelude.{◌≡◌, ◌≤◌, ◌<◌, ◌&&◌, ◌==◌, ℕ, not, nat_le, true};
 ghost use Rattle.lane_board.specs.Lanes.{has_bit};
+ghost use Rattle.well.specs.Counts.{is_filled_row};
+ghost use Rattle.empty_cells.specs.Empties.{cells_by_column};
 ghost use Rattle.empty_cells.specs.Stacks.{is_allowed};
 
 use crate::span::Span;
@@ -21,6 +23,17 @@ pub fn has_row(rows: u8, row: u8) -> bool
     ensures { result ≡ has_bit rows row }
 {
     rows >> row & 1 == 1
+}
+
+/// The rows in which a set of cells has one. Bit `8 * column + row` stands for a cell.
+#[inline(always)]
+pub fn rows_of(cells: u128) -> u8
+    ensures { (y : ℕ) → y < 8 → has_bit result y ≡ is_filled_row (cells_by_column cells) y }
+{
+    let two = cells | cells >> 8;
+    let four = two | two >> 16;
+    let eight = four | four >> 32;
+    ((eight | two >> 64) & 255) as u8
 }
 
 /// The rows of one set that the other doesn't have.

@@ -1,15 +1,15 @@
 // Cells whose rows are sent to others, and the rows that a set has.
 ghost use Rattle.std.specs.Prelude.{◌≡◌, ◌≤◌, ◌<◌, ℕ, IsTrue, slice_index};
-ghost use Rattle.std.specs.List.{list_all, list_any};
+ghost use Rattle.std.specs.List.{list_all};
 ghost use Rattle.lane_board.specs.Field.{rows_below};
-ghost use Rattle.lane_board.specs.FullRows.{columns};
 ghost use Rattle.lane_board.specs.Lanes.{has_bit};
+ghost use Rattle.well.specs.Counts.{is_filled_row};
 ghost use Rattle.srs.specs.Cells.{cells_of};
 ghost use Rattle.empty_cells.specs.Empties.{empty_cells, has_cell};
 ghost use Rattle.empty_cells.specs.SentCells.{sent_cells};
 
 use crate::empties::Empties;
-use crate::span::Span;
+use crate::rows::rows_of;
 use srs::{Placement, cells};
 
 impl Empties {
@@ -30,14 +30,10 @@ impl Empties {
     }
 
     /// The rows in which the set has a cell. Bit `y` stands for row `y`.
+    #[inline(always)]
     pub fn rows(&self) -> u8
-        ensures { (y : ℕ) → y < 8
-            → has_bit result y ≡ list_any (λ x. empty_cells self.now x y) columns }
+        ensures { (y : ℕ) → y < 8 → has_bit result y ≡ is_filled_row (empty_cells self.now) y }
     {
-        let mut rows = 0;
-        for x in 0..10 {
-            rows |= self.rows_with(x, Span::First);
-        }
-        rows
+        rows_of(self.bits())
     }
 }

@@ -14,6 +14,7 @@ use Rattle.srs.specs.declared.placement.Placement.{Placement}
 use Rattle.srs.specs.Cells.{Cell, cells_of}
 use Rattle.srs.specs.SameCells.{is_among}
 use Rattle.srs.proofs.CallerLemmas.{is_among-all, list_all-from_is_among}
+use Rattle.well.specs.Counts.{is_filled_row}
 use Rattle.well.specs.Free.{is_free, is_free_at, is_open}
 use Rattle.well.specs.Lock.{locked, rows_removed, together, with_cells}
 use Rattle.well.specs.LockLaws.{LiesBelow, is_below}
@@ -230,9 +231,9 @@ opens-after F height rows kept E q few low spread free below keeps within near =
 -- ---- which rows stay
 
 -- a row stays where the set has a cell in it
-pub stays-with : (G E : Field) (height set : ℕ) (rows : List ℕ) → IsSpread G height rows E → ((y : ℕ) → y < 8 → has_bit set y ≡ list_any (λ x. E x y) columns)
+pub stays-with : (G E : Field) (height set : ℕ) (rows : List ℕ) → IsSpread G height rows E → ((y : ℕ) → y < 8 → has_bit set y ≡ is_filled_row E y)
     → (y : ℕ) → y < height → y < 8 → has_bit set (get_or rows y 0) ≡ not (is_full G y)
-unfolding is_full
+unfolding is_full is_filled_row
 stays-with G E height set rows spread is y low small =
     is (get_or rows y 0) (spread.within y small) ∙ each columns (λ x near. spread.same x y near low) refl
   where

@@ -4,8 +4,9 @@ use Rattle.std.proofs.lemmas.Bool.{cases_lt, le-ltb, lt-ltb, ltb-true}
 use Rattle.lane_board.specs.Field.{Field}
 use Rattle.lane_board.specs.Lanes.{has_bit}
 use Rattle.lane_board.proofs.CallerLemmas.{has_bit-and, has_bit-or, has_bit-past, has_bit-shifted_right}
-use Rattle.tiled_pieces.specs.Words.{field_of, has_above}
-use Rattle.tiled_pieces.proofs.WordBits.{ones}
+use Rattle.empty_cells.specs.Empties.{cells_by_column}
+use Rattle.empty_cells.proofs.CallerLemmas.{ones}
+use Rattle.tiled_pieces.specs.Words.{has_above}
 
 row_kept : (by y : ℕ) → has_bit (255 / 2 ^ by) y ≡ nat_lt (y + by) 8
 row_kept by y = has_bit-shifted_right 255 by y ∙ elim (cases_lt (by + y) 8) [
@@ -42,7 +43,7 @@ above_more E (suc b) a x y =
 
 -- a set of the cells that have one of another set in the next rows above them
 pub record IsBelow (n rows m : ℕ) : Type 0 where
-  pub bits : (x y : ℕ) → x ≤ 9 → y < 8 → has_bit m (8 * x + y) ≡ has_above (field_of n) rows x y
+  pub bits : (x y : ℕ) → x ≤ 9 → y < 8 → has_bit m (8 * x + y) ≡ has_above (cells_by_column n) rows x y
 
 abbrev pub IsLowered : ℕ → ℕ → ℕ → Type 0
 IsLowered n by m = (x y : ℕ) → x ≤ 9 → y < 8 → has_bit m (8 * x + y) ≡ (nat_lt (y + by) 8 && has_bit n (8 * x + (y + by)))
@@ -51,7 +52,7 @@ once : (t b : Bool) → (t && b) ≡ (false || (t && (t && b)))
 once t b = search rules
 
 pub first_below : (n m : ℕ) → IsLowered n 1 m → IsBelow n 1 m
-unfolding has_above field_of
+unfolding has_above cells_by_column
 first_below n m lowered = record { bits = λ x y column low. lowered x y column low ∙ once (nat_lt (y + 1) 8) (has_bit n (8 * x + (y + 1))) }
 
 where_lower : (t p q : Bool) → (t ≡ true → p ≡ q) → (t && p) ≡ (t && q)
@@ -63,5 +64,5 @@ twice_below n rows m moved is lowered = record {
       has_bit-or m moved (8 * x + y)
       ∙ ap₂ ◌||◌ (is.bits x y column low)
       (lowered x y column low ∙ where_lower (nat_lt (y + rows) 8) _ _ (λ within. is.bits x (y + rows) column (ltb-true _ _ within)))
-      ∙ sym (above_more (field_of n) rows rows x y);
+      ∙ sym (above_more (cells_by_column n) rows rows x y);
 }

@@ -5,7 +5,8 @@ use Rattle.std.proofs.Math.Bool.{and-false, or-false}
 use Rattle.lane_board.specs.Field.{Field}
 use Rattle.lane_board.specs.Lanes.{has_bit}
 use Rattle.lane_board.proofs.CallerLemmas.{has_bit-and, has_bit-low, has_bit-or, has_bit-shifted_high, has_bit-shifted_low}
-use Rattle.tiled_pieces.specs.Words.{has_floor, has_row, is_filled}
+use Rattle.well.specs.Counts.{is_filled_row}
+use Rattle.tiled_pieces.specs.Words.{has_floor, is_filled}
 
 abbrev lowest : ℕ
 lowest = 4740885567116192841985
@@ -51,7 +52,7 @@ floors_start E filled is = record {
     found x r column is_low = rw is_low (has_bit-or (filled * 2 % 2 ^ 128) lowest (8 * x + 0) ∙ or_true _ _ (row_bit 0 x 0 (omega arith) column (omega arith)))
 
 -- the cells of a row that is gone pass their floors on
-module _ (E : Field) (floors mask y : ℕ) (below : y < 7) (is : (x r : ℕ) → x ≤ 9 → r < 8 → has_bit mask (8 * x + r) ≡ ((r == y) && not (has_row E r)))
+module _ (E : Field) (floors mask y : ℕ) (below : y < 7) (is : (x r : ℕ) → x ≤ 9 → r < 8 → has_bit mask (8 * x + r) ≡ ((r == y) && not (is_filled_row E r)))
     (floored : Floored E floors y) where
   abbrev added : ℕ
   added = bit_and floors mask * 2 % 2 ^ 128
@@ -63,14 +64,14 @@ module _ (E : Field) (floors mask y : ℕ) (below : y < 7) (is : (x r : ℕ) →
       ∙ has_bit-shifted_high (bit_and floors mask) 1 (8 * suc x + 0) (omega arith)
       ∙ ap (has_bit (bit_and floors mask)) {x = (8 * suc x + 0) - 1} {y = 8 * x + 7} (omega arith)
       ∙ has_bit-and floors mask (8 * x + 7)
-      ∙ ap (λ b. has_bit floors (8 * x + 7) && b) (is x 7 (omega (arith, column)) (omega arith) ∙ ap (λ b. b && not (has_row E 7)) (ne_eqb 7 y (λ e. omega (arith, e, below))))
+      ∙ ap (λ b. has_bit floors (8 * x + 7) && b) (is x 7 (omega (arith, column)) (omega arith) ∙ ap (λ b. b && not (is_filled_row E 7)) (ne_eqb 7 y (λ e. omega (arith, e, below))))
       ∙ and-false (has_bit floors (8 * x + 7))
 
-  passed : (x r : ℕ) → x ≤ 9 → r < 7 → has_bit added (8 * x + suc r) ≡ (has_bit floors (8 * x + r) && ((r == y) && not (has_row E r)))
+  passed : (x r : ℕ) → x ≤ 9 → r < 7 → has_bit added (8 * x + suc r) ≡ (has_bit floors (8 * x + r) && ((r == y) && not (is_filled_row E r)))
   passed x r column low = raised (bit_and floors mask) x r column low ∙ has_bit-and floors mask (8 * x + r) ∙ ap (λ b. has_bit floors (8 * x + r) && b) (is x r column (omega (arith, low)))
 
   next : (x r : ℕ) → x ≤ 9 → r < 7 → has_bit (bit_or floors added) (8 * x + suc r)
-      ≡ (has_bit floors (8 * x + suc r) || (has_bit floors (8 * x + r) && ((r == y) && not (has_row E r))))
+      ≡ (has_bit floors (8 * x + suc r) || (has_bit floors (8 * x + r) && ((r == y) && not (is_filled_row E r))))
   next x r column low = has_bit-or floors added (8 * x + suc r) ∙ ap (λ b. has_bit floors (8 * x + suc r) || b) (passed x r column low)
 
   elsewhere : (p q t s : Bool) → t ≡ false → (p || (q && (t && s))) ≡ p

@@ -2,8 +2,10 @@
 use Rattle.std.proofs.Common.{◌≡◌, ◌⊎◌, ℕ, zero, suc, ◌+◌, ◌^◌, ◌<◌, ◌≤◌, Bool, true, false, not, ◌&&◌, ◌||◌, nat_lt, refl, sym, ap, ap₂, ◌∙◌, inl, inr, arith, rules}
 use Rattle.std.proofs.lemmas.Bool.{and_from, and_parts, both_ways, cases_Bool, cases_eq, lt-ltb, ltb-true}
 use Rattle.lane_board.specs.Field.{Field}
+use Rattle.well.specs.Counts.{is_filled_row}
+use Rattle.empty_cells.specs.Empties.{cells_by_column}
 use Rattle.tiled_pieces.specs.Built.{HasFloor, IsGone}
-use Rattle.tiled_pieces.specs.Words.{field_of, has_above, has_floor, has_row, is_filled}
+use Rattle.tiled_pieces.specs.Words.{has_above, has_floor, is_filled}
 use Rattle.tiled_pieces.proofs.RowTests.{gone_row, row_gone}
 
 on_filled : (r e s : Bool) → r ≡ true → e ≡ false → ((r && not e) || s) ≡ true
@@ -12,16 +14,16 @@ on_filled r e s is none = search rules
 on_gone : (f r s : Bool) → r ≡ false → s ≡ true → (f || (not r && s)) ≡ true
 on_gone f r s none is = search rules
 
-pub floor_test : (n x y : ℕ) → n < 2 ^ 80 → HasFloor (field_of n) x y → has_floor (field_of n) x y ≡ true
+pub floor_test : (n x y : ℕ) → n < 2 ^ 80 → HasFloor (cells_by_column n) x y → has_floor (cells_by_column n) x y ≡ true
 unfolding has_floor is_filled
 floor_test n x zero small floor = refl
-floor_test n x (suc y) small floor = elim (cases_Bool (has_row (field_of n) y)) [
-  | inl has ↦ on_filled (has_row (field_of n) y) (field_of n x y) _ has (floor y (omega arith) (λ w after before. absurd (omega (arith, after, before))))
-  | inr none ↦ on_gone _ (has_row (field_of n) y) (has_floor (field_of n) x y) none
+floor_test n x (suc y) small floor = elim (cases_Bool (is_filled_row (cells_by_column n) y)) [
+  | inl has ↦ on_filled (is_filled_row (cells_by_column n) y) (cells_by_column n x y) _ has (floor y (omega arith) (λ w after before. absurd (omega (arith, after, before))))
+  | inr none ↦ on_gone _ (is_filled_row (cells_by_column n) y) (has_floor (cells_by_column n) x y) none
       (floor_test n x y small (λ z below gone. floor z (omega (arith, below)) (λ w after before. passed z gone none w after before)))
 ]
   where
-    passed : (z : ℕ) → ((w : ℕ) → z < w → w < y → IsGone (field_of n) w) → has_row (field_of n) y ≡ false → (w : ℕ) → z < w → w < suc y → IsGone (field_of n) w
+    passed : (z : ℕ) → ((w : ℕ) → z < w → w < y → IsGone (cells_by_column n) w) → is_filled_row (cells_by_column n) y ≡ false → (w : ℕ) → z < w → w < suc y → IsGone (cells_by_column n) w
     passed z gone none w after before = elim (cases_eq w y) [
       | inl same ↦ rw same (row_gone n y small none)
       | inr other ↦ gone w after (omega (arith, before, other))
@@ -34,21 +36,21 @@ is_one false g e = inr e
 is_false : (b : Bool) → not b ≡ true → b ≡ false
 is_false b e = search rules
 
-pub floor_from : (n x y : ℕ) → n < 2 ^ 80 → has_floor (field_of n) x y ≡ true → HasFloor (field_of n) x y
+pub floor_from : (n x y : ℕ) → n < 2 ^ 80 → has_floor (cells_by_column n) x y ≡ true → HasFloor (cells_by_column n) x y
 unfolding has_floor is_filled
 floor_from n x zero small has = λ z below gone. absurd (omega (arith, below))
 floor_from n x (suc y) small has = λ z below gone. at (floor_from n x y small) z below gone (is_one _ _ has)
   where
-    at : (has_floor (field_of n) x y ≡ true → HasFloor (field_of n) x y) → (z : ℕ) → z < suc y → ((w : ℕ) → z < w → w < suc y → IsGone (field_of n) w) →
-        ((has_row (field_of n) y && not (field_of n x y)) ≡ true) ⊎ ((not (has_row (field_of n) y) && has_floor (field_of n) x y) ≡ true) → field_of n x z ≡ false
+    at : (has_floor (cells_by_column n) x y ≡ true → HasFloor (cells_by_column n) x y) → (z : ℕ) → z < suc y → ((w : ℕ) → z < w → w < suc y → IsGone (cells_by_column n) w) →
+        ((is_filled_row (cells_by_column n) y && not (cells_by_column n x y)) ≡ true) ⊎ ((not (is_filled_row (cells_by_column n) y) && has_floor (cells_by_column n) x y) ≡ true) → cells_by_column n x z ≡ false
     at lower z below gone (inl filled) =
-        let both = and_parts (has_row (field_of n) y) (not (field_of n x y)) filled in
+        let both = and_parts (is_filled_row (cells_by_column n) y) (not (cells_by_column n x y)) filled in
         elim (cases_eq z y) [
-          | inl same ↦ rw same (is_false (field_of n x y) both.1)
-          | inr other ↦ absurd (both_ways _ (gone_row (field_of n) y (gone y (omega (arith, below, other)) (omega arith))) both.0)
+          | inl same ↦ rw same (is_false (cells_by_column n x y) both.1)
+          | inr other ↦ absurd (both_ways _ (gone_row (cells_by_column n) y (gone y (omega (arith, below, other)) (omega arith))) both.0)
         ]
     at lower z below gone (inr passed) =
-        let both = and_parts (not (has_row (field_of n) y)) (has_floor (field_of n) x y) passed in
+        let both = and_parts (not (is_filled_row (cells_by_column n) y)) (has_floor (cells_by_column n) x y) passed in
         elim (cases_eq z y) [
           | inl same ↦ rw same (row_gone n y small (is_false _ both.0) x)
           | inr other ↦ lower both.1 z (omega (arith, below, other)) (λ w after before. gone w after (omega (arith, before)))

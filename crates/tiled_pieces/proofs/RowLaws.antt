@@ -4,48 +4,44 @@ use Rattle.std.specs.Prelude.{All}
 use Rattle.std.proofs.lemmas.Bool.{and_parts, both_ways, cases_Bool, false_from_ne_true}
 use Rattle.std.proofs.lemmas.List.Elements.{All-cons, All-nil, All-weaker}
 use Rattle.lane_board.specs.Field.{Field, difference}
+use Rattle.well.specs.Counts.{is_filled_row}
 use Rattle.empty_cells.proofs.CallerLemmas.{IsSmall}
 use Rattle.tiled_pieces.specs.TilingLists.{LaidPiece}
 use Rattle.tiled_pieces.specs.Built.{AreBuilt, IsGone}
 use Rattle.tiled_pieces.specs.RowOrders.{CanGo, HasTurns}
-use Rattle.tiled_pieces.specs.Words.{has_row}
 use Rattle.tiled_pieces.proofs.LaidLemmas.{left_small}
-use Rattle.tiled_pieces.proofs.RowTests.{any_column, gone_row}
+use Rattle.tiled_pieces.proofs.RowTests.{gone_row, row_there}
 
 -- how many of the pieces are put before a row has no cell left
 gone_after : Field → List LaidPiece → ℕ → ℕ
 gone_after E [] row = 0
-gone_after E (laid ∷ more) row = if has_row E row then suc (gone_after (difference E laid.cells) more row) else 0
-
-row_there : (E : Field) (row x : ℕ) → IsSmall 8 E → E x row ≡ true → has_row E row ≡ true
-unfolding has_row
-row_there E row x small here = any_column (λ x. E x row) x (small.column x row here) here
+gone_after E (laid ∷ more) row = if is_filled_row E row then suc (gone_after (difference E laid.cells) more row) else 0
 
 -- a row that is gone has no cell later
-still_gone : (E cells : Field) (row : ℕ) → IsSmall 8 E → has_row E row ≡ false → has_row (difference E cells) row ≡ false
+still_gone : (E cells : Field) (row : ℕ) → IsSmall 8 E → is_filled_row E row ≡ false → is_filled_row (difference E cells) row ≡ false
 unfolding difference
 still_gone E cells row small none = gone_row (difference E cells) row (λ x. false_from_ne_true _ (λ here. both_ways _ none (row_there E row x small (and_parts (E x row) _ here).0)))
 
 module _ (E : Field) (laid : LaidPiece) (more : List LaidPiece) (row : ℕ) where
-  now_gone : has_row E row ≡ false → gone_after E (laid ∷ more) row ≡ 0
+  now_gone : is_filled_row E row ≡ false → gone_after E (laid ∷ more) row ≡ 0
   unfolding gone_after
   now_gone none = ap (λ b. if b then suc (gone_after (difference E laid.cells) more row) else 0) none
 
-  not_gone : has_row E row ≡ true → gone_after E (laid ∷ more) row ≡ suc (gone_after (difference E laid.cells) more row)
+  not_gone : is_filled_row E row ≡ true → gone_after E (laid ∷ more) row ≡ suc (gone_after (difference E laid.cells) more row)
   unfolding gone_after
   not_gone has = ap (λ b. if b then suc (gone_after (difference E laid.cells) more row) else 0) has
 
   one_more : gone_after E (laid ∷ more) row ≤ suc (gone_after (difference E laid.cells) more row)
-  one_more = elim (cases_Bool (has_row E row)) [
+  one_more = elim (cases_Bool (is_filled_row E row)) [
     | inl has ↦ omega (arith, not_gone has)
     | inr none ↦ omega (arith, now_gone none)
   ]
 
 -- a row that goes after some pieces has a cell
-has_later : (E : Field) (pieces : List LaidPiece) (row : ℕ) → 0 < gone_after E pieces row → has_row E row ≡ true
+has_later : (E : Field) (pieces : List LaidPiece) (row : ℕ) → 0 < gone_after E pieces row → is_filled_row E row ≡ true
 unfolding gone_after
 has_later E [] row some = absurd (omega (arith, some))
-has_later E (laid ∷ more) row some = elim (cases_Bool (has_row E row)) [
+has_later E (laid ∷ more) row some = elim (cases_Bool (is_filled_row E row)) [
   | inl has ↦ has
   | inr none ↦ absurd (omega (arith, some, now_gone E laid more row none))
 ]
@@ -69,8 +65,8 @@ turns_later E laid more small other turns = record {
       omega (arith, later, one_more E laid more gap, not_gone E laid more row (was_there row (has_later (difference E laid.cells) more row (omega (arith, later)))));
 }
   where
-    was_there : (row : ℕ) → has_row (difference E laid.cells) row ≡ true → has_row E row ≡ true
-    was_there row has = elim (cases_Bool (has_row E row)) [
+    was_there : (row : ℕ) → is_filled_row (difference E laid.cells) row ≡ true → is_filled_row E row ≡ true
+    was_there row has = elim (cases_Bool (is_filled_row E row)) [
       | inl there ↦ there
       | inr none ↦ absurd (both_ways _ (still_gone E laid.cells row small none) has)
     ]

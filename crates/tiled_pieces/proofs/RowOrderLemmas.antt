@@ -1,5 +1,5 @@
 -- Orders of rows as numbers: what one more row or piece brings.
-use Rattle.std.proofs.Common.{Option, Some, None, ◌≡◌, ℕ, ◌+◌, ◌-◌, ◌*◌, ◌/◌, ◌%◌, ◌^◌, ◌<◌, true, not, ◌&&◌, ◌==◌, nat_lt, bit_and, bit_or, List, ◌∷◌, sym, ap, subst, ◌∙◌, inl, inr, arith}
+use Rattle.std.proofs.Common.{Option, Some, None, ◌≡◌, ℕ, ◌+◌, ◌-◌, ◌*◌, ◌/◌, ◌%◌, ◌^◌, ◌<◌, true, not, ◌&&◌, ◌==◌, bit_and, bit_or, List, ◌∷◌, sym, ap, subst, ◌∙◌, inl, inr, arith}
 use Rattle.std.specs.Prelude.{All, MatchOption}
 use Rattle.std.proofs.lemmas.Bool.{and_parts, both_ways, cases_eq, cases_lt, eq-eqb, or_cases}
 use Rattle.std.proofs.lemmas.Nat.{and_le_l, shl_whole}
@@ -8,16 +8,16 @@ use Rattle.std.proofs.lemmas.List.Elements.{All-head, All-tail}
 use Rattle.lane_board.specs.Field.{Field}
 use Rattle.lane_board.specs.Lanes.{has_bit}
 use Rattle.lane_board.proofs.CallerLemmas.{has_bit-and, has_bit-or, has_bit-past, has_bit-shifted_high, has_bit-shifted_low, has_bit-shifted_right}
+use Rattle.well.specs.Counts.{is_filled_row}
 use Rattle.srs.specs.declared.piece.Piece.{Piece}
+use Rattle.empty_cells.proofs.CallerLemmas.{IsSmall, ones}
 use Rattle.tiled_pieces.specs.declared.row_order.RowOrder.{RowOrder}
 use Rattle.tiled_pieces.specs.TilingLists.{LaidPiece}
 use Rattle.tiled_pieces.specs.RowOrders.{HasRow, HasTurns, IsGap}
 use Rattle.tiled_pieces.specs.RowBits.{Agrees, Follows, GoBefore, GoesBefore}
-use Rattle.tiled_pieces.specs.Words.{field_of, has_row, is_between}
+use Rattle.tiled_pieces.specs.Words.{is_between}
 use Rattle.tiled_pieces.proofs.FitTests.{some_bit, unset}
-use Rattle.tiled_pieces.proofs.PieceLemmas.{field_is}
-use Rattle.tiled_pieces.proofs.WordBits.{ones}
-use Rattle.tiled_pieces.proofs.RowTests.{Between, between_same, between_some, row_has, row_some}
+use Rattle.tiled_pieces.proofs.RowTests.{Between, between_same, between_some, row_some, row_there}
 
 -- where no bit is set, each order of turns agrees
 pub agrees_none : (turn : ℕ → ℕ) (before : ℕ) → before ≡ 0 → Agrees turn before
@@ -97,25 +97,22 @@ agrees_with turn before later word row is small low agrees goes =
     (agrees_more turn before later row small agrees goes)
 
 -- the gaps of a piece go before its rows
-pub piece_goes : (E : Field) (piece : Piece) (n rows gaps : ℕ) (turn : ℕ → ℕ) → n < 2 ^ 80 → ((x y : ℕ) → E x y ≡ (nat_lt y 8 && has_bit n (8 * x + y))) → ((y : ℕ) → y < 8 → has_bit rows y ≡ has_row (field_of n) y) →
+pub piece_goes : (E : Field) (piece : Piece) (rows gaps : ℕ) (turn : ℕ → ℕ) → IsSmall 8 E → ((y : ℕ) → y < 8 → has_bit rows y ≡ is_filled_row E y) →
     ((z : ℕ) → z < 8 → has_bit gaps z ≡ is_between (has_bit rows) z) → HasTurns turn (record { piece = piece; cells = E }) → GoBefore turn gaps rows
-piece_goes E piece n rows gaps turn small cells in_rows between turns = record {
+piece_goes E piece rows gaps turn small in_rows between turns = record {
   each = λ z low gap. record {
     each = λ r near row. turns.before z r
-        (is_gap z (between_some (has_row (field_of n)) z (sym (between_same (has_bit rows) (has_row (field_of n)) z low in_rows) ∙ sym (between z low) ∙ gap))) (row_at r (sym (in_rows r near) ∙ row));
+        (is_gap z (between_some (is_filled_row E) z (sym (between_same (has_bit rows) (is_filled_row E) z low in_rows) ∙ sym (between z low) ∙ gap))) (row_at r (sym (in_rows r near) ∙ row));
   };
 }
   where
     laid : LaidPiece
     laid = record { piece = piece; cells = E }
 
-    same : (x y : ℕ) → E x y ≡ field_of n x y
-    same x y = sym (ap (λ (F : Field). F x y) (field_is E n cells))
+    row_at : (r : ℕ) → is_filled_row E r ≡ true → HasRow laid r
+    row_at r has = let some = row_some E r has in record { x = some.0; there = some.1 }
 
-    row_at : (r : ℕ) → has_row (field_of n) r ≡ true → HasRow laid r
-    row_at r has = let some = row_some (field_of n) r has in record { x = some.0; there = same some.0 r ∙ some.1 }
-
-    is_gap : (z : ℕ) → Between (has_row (field_of n)) z → IsGap laid z
+    is_gap : (z : ℕ) → Between (is_filled_row E) z → IsGap laid z
     is_gap z sides = record {
       below = sides.y;
       above = sides.v;
@@ -123,7 +120,7 @@ piece_goes E piece n rows gaps turn small cells in_rows between turns = record {
       upper = row_at sides.v sides.upper;
       over = sides.below;
       under = sides.above;
-      none = λ there. both_ways _ sides.none (row_has n there.x z small (sym (same there.x z) ∙ there.there));
+      none = λ there. both_ways _ sides.none (row_there E z there.x small there.there);
     }
 
 -- what follows a piece

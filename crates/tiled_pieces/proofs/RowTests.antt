@@ -9,8 +9,11 @@ use Rattle.lane_board.specs.Field.{Field}
 use Rattle.lane_board.specs.FullRows.{columns}
 use Rattle.lane_board.specs.Lanes.{has_bit}
 use Rattle.lane_board.proofs.CallerLemmas.{column_is, has_bit-past}
+use Rattle.well.specs.Counts.{is_filled_row}
+use Rattle.empty_cells.specs.Empties.{cells_by_column}
+use Rattle.empty_cells.proofs.CallerLemmas.{IsSmall}
 use Rattle.tiled_pieces.specs.Built.{IsGone}
-use Rattle.tiled_pieces.specs.Words.{eight, field_of, has_row, is_between}
+use Rattle.tiled_pieces.specs.Words.{eight, is_between}
 
 or_else : (p q : Bool) → (p || q) ≡ true → p ≡ false → q ≡ true
 or_else p q e none = search rules
@@ -25,7 +28,7 @@ any_some test (x ∷ xs) e = elim (cases_Bool (test x)) [
 any_eight : (test : ℕ → Bool) (y : ℕ) → y < 8 → test y ≡ true → list_any test eight ≡ true
 any_eight test y low here = list_any_at test eight y 0 low (ap test {x = get_or eight y 0} {y = y} (get_or-range_with_len 0 8 y 0 low ∙ omega arith) ∙ here)
 
-pub any_column : (test : ℕ → Bool) (x : ℕ) → x < 10 → test x ≡ true → list_any test columns ≡ true
+any_column : (test : ℕ → Bool) (x : ℕ) → x < 10 → test x ≡ true → list_any test columns ≡ true
 any_column test x near here = list_any_at test columns x 0 near (ap test (column_is x near) ∙ here)
 
 -- what is known of a cell of a set
@@ -34,8 +37,8 @@ pub record CellOf (n x y : ℕ) : Type 0 where
   pub row : y < 8
   pub bit : has_bit n (8 * x + y) ≡ true
 
-pub cell_of : (n x y : ℕ) → n < 2 ^ 80 → field_of n x y ≡ true → CellOf n x y
-unfolding field_of
+pub cell_of : (n x y : ℕ) → n < 2 ^ 80 → cells_by_column n x y ≡ true → CellOf n x y
+unfolding cells_by_column
 cell_of n x y small here =
     let both = and_parts (nat_lt y 8) (has_bit n (8 * x + y)) here in
     record {
@@ -47,23 +50,27 @@ cell_of n x y small here =
       bit = both.1;
     }
 
-pub cell_from : (n x y : ℕ) → y < 8 → has_bit n (8 * x + y) ≡ true → field_of n x y ≡ true
-unfolding field_of
+pub cell_from : (n x y : ℕ) → y < 8 → has_bit n (8 * x + y) ≡ true → cells_by_column n x y ≡ true
+unfolding cells_by_column
 cell_from n x y low bit = and_from (nat_lt y 8) (has_bit n (8 * x + y)) (lt-ltb y 8 low) bit
 
-pub row_some : (E : Field) (y : ℕ) → has_row E y ≡ true → (x : ℕ) × (E x y ≡ true)
-unfolding has_row
+pub row_some : (E : Field) (y : ℕ) → is_filled_row E y ≡ true → (x : ℕ) × (E x y ≡ true)
+unfolding is_filled_row
 row_some E y has = any_some (λ x. E x y) columns has
 
-pub row_has : (n x y : ℕ) → n < 2 ^ 80 → field_of n x y ≡ true → has_row (field_of n) y ≡ true
-unfolding has_row
-row_has n x y small here = any_column (λ x. field_of n x y) x (omega (arith, (cell_of n x y small here).column)) here
+pub row_there : (E : Field) (row x : ℕ) → IsSmall 8 E → E x row ≡ true → is_filled_row E row ≡ true
+unfolding is_filled_row
+row_there E row x small here = any_column (λ x. E x row) x (small.column x row here) here
 
-pub row_gone : (n y : ℕ) → n < 2 ^ 80 → has_row (field_of n) y ≡ false → IsGone (field_of n) y
-row_gone n y small none = λ x. false_from_ne_true (field_of n x y) (λ here. both_ways _ none (row_has n x y small here))
+pub row_has : (n x y : ℕ) → n < 2 ^ 80 → cells_by_column n x y ≡ true → is_filled_row (cells_by_column n) y ≡ true
+unfolding is_filled_row
+row_has n x y small here = any_column (λ x. cells_by_column n x y) x (omega (arith, (cell_of n x y small here).column)) here
 
-pub gone_row : (E : Field) (y : ℕ) → IsGone E y → has_row E y ≡ false
-gone_row E y gone = false_from_ne_true (has_row E y) (λ has. let some = row_some E y has in both_ways _ (gone some.0) some.1)
+pub row_gone : (n y : ℕ) → n < 2 ^ 80 → is_filled_row (cells_by_column n) y ≡ false → IsGone (cells_by_column n) y
+row_gone n y small none = λ x. false_from_ne_true (cells_by_column n x y) (λ here. both_ways _ none (row_has n x y small here))
+
+pub gone_row : (E : Field) (y : ℕ) → IsGone E y → is_filled_row E y ≡ false
+gone_row E y gone = false_from_ne_true (is_filled_row E y) (λ has. let some = row_some E y has in both_ways _ (gone some.0) some.1)
 
 -- rows on both sides
 pub record Between (rows : ℕ → Bool) (z : ℕ) : Type 0 where

@@ -8,16 +8,16 @@ use Rattle.lane_board.specs.Lanes.{has_bit}
 use Rattle.lane_board.proofs.CallerLemmas.{has_bit-and, has_bit-or, has_bit-zero}
 use Rattle.srs.specs.declared.piece.Piece.TheVariants.{I}
 use Rattle.empty_cells.specs.Spans.{HasNoCell}
+use Rattle.empty_cells.specs.Empties.{cells_by_column}
 use Rattle.tiled_pieces.specs.TilingLists.{LaidPiece}
 use Rattle.tiled_pieces.specs.declared.laid.Laid.{Laid}
 use Rattle.tiled_pieces.specs.Built.{Fits}
 use Rattle.tiled_pieces.specs.Orders.{Carries, IsCarried, Visits, cells_at, left_after, number_after, weight_at}
-use Rattle.tiled_pieces.specs.Words.{field_of}
 use Rattle.tiled_pieces.proofs.FitTests.{cell_at, none_set}
 
 -- what is left of a set as a number
-pub field_without : (a b w : ℕ) → ((k : ℕ) → has_bit w k ≡ (has_bit a k && not (has_bit b k))) → field_of w ≡ difference (field_of a) (field_of b)
-unfolding field_of difference
+pub field_without : (a b w : ℕ) → ((k : ℕ) → has_bit w k ≡ (has_bit a k && not (has_bit b k))) → cells_by_column w ≡ difference (cells_by_column a) (cells_by_column b)
+unfolding cells_by_column difference
 field_without a b w bits = fun_ext (λ x. fun_ext (λ y. ap (λ t. nat_lt y 8 && t) (bits (8 * x + y)) ∙ within (nat_lt y 8) (has_bit a (8 * x + y)) (has_bit b (8 * x + y))))
   where
     within : (t p q : Bool) → (t && (p && not q)) ≡ ((t && p) && not (t && q))
@@ -26,9 +26,9 @@ field_without a b w bits = fun_ext (λ x. fun_ext (λ y. ap (λ t. nat_lt y 8 &&
 number_at : (f : Laid → ℕ) (pieces : List Laid) (i : ℕ) (piece : Laid) → i < length pieces → piece ≡ get_or pieces i piece → slice_index (map f pieces) i ≡ f piece
 number_at f pieces i piece known is = get_or-map f pieces i piece 0 known ∙ ap f (sym is)
 
-pub cells_is : (pieces : List Laid) (i : ℕ) (piece : Laid) → i < length pieces → piece ≡ get_or pieces i piece → cells_at pieces i ≡ field_of piece.cells
+pub cells_is : (pieces : List Laid) (i : ℕ) (piece : Laid) → i < length pieces → piece ≡ get_or pieces i piece → cells_at pieces i ≡ cells_by_column piece.cells
 unfolding cells_at
-cells_is pieces i piece known is = ap field_of (number_at (λ (piece : Laid). piece.cells) pieces i piece known is)
+cells_is pieces i piece known is = ap cells_by_column (number_at (λ (piece : Laid). piece.cells) pieces i piece known is)
 
 pub weight_is : (pieces : List Laid) (i : ℕ) (piece : Laid) → i < length pieces → piece ≡ get_or pieces i piece → weight_at pieces i ≡ piece.weight
 unfolding weight_at
@@ -67,7 +67,7 @@ number_start pieces set = refl
 module _ (pieces : List Laid) (drops : Bool) (allowed : List ℕ) (hands set : ℕ) (E : Field) (number i bit : ℕ) (piece : Laid) (a : ℕ)
     (known : i < length pieces) (is : piece ≡ get_or pieces i piece) (at : a ≡ slice_index allowed (number + piece.weight)) where
   abbrev laid : LaidPiece
-  laid = record { piece = I; cells = field_of piece.cells }
+  laid = record { piece = I; cells = cells_by_column piece.cells }
 
   same_number : slice_index allowed (number + weight_at pieces i) ≡ a
   same_number = ap (λ w. slice_index allowed (number + w)) (weight_is pieces i piece known is) ∙ sym at
@@ -195,11 +195,11 @@ module _ (pieces : List Laid) (drops : Bool) (allowed : List ℕ) (E : Field) (s
         (subst (λ k. Carries pieces d allowed (slice_index old set) set F k old new (length pieces)) number carried));
   }
 
-pub some_cell : (n : ℕ) → (n ≡ 0 → ⊥) → HasNoCell (field_of n) → ⊥
+pub some_cell : (n : ℕ) → (n ≡ 0 → ⊥) → HasNoCell (cells_by_column n) → ⊥
 some_cell n some empty = some (none_set n (λ k bit. both_ways _ (empty.none (k / 8) (k % 8)) (cell_at n k bit)))
 
-pub empty_cells_of : (n : ℕ) → n ≡ 0 → HasNoCell (field_of n)
-unfolding field_of
+pub empty_cells_of : (n : ℕ) → n ≡ 0 → HasNoCell (cells_by_column n)
+unfolding cells_by_column
 empty_cells_of n is = record { none = λ x y. is_none (nat_lt y 8) _ (ap (λ n. has_bit n (8 * x + y)) is ∙ has_bit-zero (8 * x + y)) }
   where
     is_none : (t b : Bool) → b ≡ false → (t && b) ≡ false

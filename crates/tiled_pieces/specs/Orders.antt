@@ -5,15 +5,15 @@ use Rattle.lane_board.specs.Lanes.{has_bit}
 use Rattle.srs.specs.declared.piece.Piece.TheVariants.{I}
 use Rattle.srs.specs.Piece.{piece_code}
 use Rattle.empty_cells.specs.Spans.{HasNoCell}
+use Rattle.empty_cells.specs.Empties.{cells_by_column}
 use Rattle.tiled_pieces.specs.declared.listed.ListedTiling.{ListedTiling}
 use Rattle.tiled_pieces.specs.TilingLists.{LaidPiece, laid_at, most_pieces}
 use Rattle.tiled_pieces.specs.declared.laid.Laid.{Laid}
 use Rattle.tiled_pieces.specs.Built.{Fits}
-use Rattle.tiled_pieces.specs.Words.{field_of}
 
 -- the cells of the piece at an index
 unfoldable pub cells_at : List Laid → ℕ → Field
-cells_at pieces i = field_of (slice_index (map (λ (piece : Laid). piece.cells) pieces) i)
+cells_at pieces i = cells_by_column (slice_index (map (λ (piece : Laid). piece.cells) pieces) i)
 
 -- the weight of its kind
 unfoldable pub weight_at : List Laid → ℕ → ℕ

@@ -1,26 +1,17 @@
--- Sets of cells in columns 0 to 9 and rows 0 to 7 as numbers, and tests of their cells.
-use Rattle.std.specs.Prelude.{ℕ, zero, suc, ◌+◌, ◌*◌, Bool, true, false, not, ◌&&◌, ◌||◌, nat_lt, List, [], ◌∷◌}
+-- Tests of the cells and rows of a set of cells in rows 0 to 7.
+use Rattle.std.specs.Prelude.{ℕ, zero, suc, ◌+◌, Bool, true, false, not, ◌&&◌, ◌||◌, nat_lt, List, [], ◌∷◌}
 use Rattle.std.specs.List.{list_any}
 use Rattle.lane_board.specs.Field.{Field}
-use Rattle.lane_board.specs.FullRows.{columns}
-use Rattle.lane_board.specs.Lanes.{has_bit}
+use Rattle.well.specs.Counts.{is_filled_row}
 
--- the cells that the bits of a number stand for: bit 8 * column + row
-unfoldable pub field_of : ℕ → Field
-field_of cells x y = nat_lt y 8 && has_bit cells (8 * x + y)
-
--- the set has a cell in a row
-unfoldable pub has_row : Field → ℕ → Bool
-has_row E y = list_any (λ x. E x y) columns
-
--- a cell of a row that is not gone is not in the set
+-- a row in which the set has a cell is not gone; a cell of such a row is filled if it is not in the set
 unfoldable pub is_filled : Field → Field
-is_filled E x y = has_row E y && not (E x y)
+is_filled E x y = is_filled_row E y && not (E x y)
 
 -- a cell stands on the floor, or on a filled cell of the next row below that is not gone
 unfoldable pub has_floor : Field → Field
 has_floor E x zero = true
-has_floor E x (suc y) = is_filled E x y || (not (has_row E y) && has_floor E x y)
+has_floor E x (suc y) = is_filled E x y || (not (is_filled_row E y) && has_floor E x y)
 
 -- one of the next cells above a cell is in the set
 unfoldable pub has_above : Field → ℕ → Field

@@ -1,10 +1,9 @@
 // The hands that a tiling serves.
 ghost use Rattle.std.specs.Prelude.{ℕ, ◌≡◌, ◌≤◌, ◌<◌, ◌^◌, ◌↔◌, IsTrue, take, true};
 ghost use Rattle.lane_board.specs.Lanes.{has_bit};
-ghost use Rattle.empty_cells.specs.Empties.{empty_cells};
+ghost use Rattle.empty_cells.specs.Empties.{cells_by_column, empty_cells};
 ghost use Rattle.tiled_pieces.specs.Orders.{HasThose, LiesIn};
 ghost use Rattle.tiled_pieces.specs.Served.{IsServed};
-ghost use Rattle.tiled_pieces.specs.Words.{field_of};
 
 use crate::laid::Laid;
 use crate::listed::{ListedTiling, MOST_PIECES};
@@ -16,7 +15,7 @@ use empty_cells::Empties;
 #[inline(always)]
 fn lies_in(piece: u128, cells: u128) -> bool
     requires { piece < 2 ^ 80 }
-    ensures { IsTrue result ↔ LiesIn (field_of piece) (field_of cells) }
+    ensures { IsTrue result ↔ LiesIn (cells_by_column piece) (cells_by_column cells) }
 {
     if piece == 0 {
         return false;
@@ -28,7 +27,7 @@ fn lies_in(piece: u128, cells: u128) -> bool
 #[inline(always)]
 fn those_in(tiling: &ListedTiling, cells: u128, weights: &[u16; 8]) -> ([Laid; MOST_PIECES], usize)
     ensures few { result.1 ≤ MOST_PIECES }
-    ensures those { HasThose tiling.now (field_of cells) weights.now (take result.1 result.0) MOST_PIECES }
+    ensures those { HasThose tiling.now (cells_by_column cells) weights.now (take result.1 result.0) MOST_PIECES }
 {
     let mut pieces = [Laid::new(0, 0); MOST_PIECES];
     let mut count = 0;

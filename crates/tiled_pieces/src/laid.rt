@@ -1,9 +1,12 @@
 // A piece of a tiling.
 ghost use Rattle.std.specs.Prelude.{ℕ, ◌≡◌, ◌<◌, ◌^◌};
 ghost use Rattle.lane_board.specs.Lanes.{has_bit};
-ghost use Rattle.tiled_pieces.specs.Words.{field_of, has_row, is_between};
+ghost use Rattle.well.specs.Counts.{is_filled_row};
+ghost use Rattle.empty_cells.specs.Empties.{cells_by_column};
+ghost use Rattle.tiled_pieces.specs.Words.{is_between};
 
-use crate::words::{between, rows_of};
+use crate::words::between;
+use empty_cells::rows_of;
 
 /// The cells of a piece, and the weight of its kind.
 #[derive(Clone, Copy)]
@@ -14,7 +17,7 @@ pub(crate) struct Laid {
     pub(crate) between: u8,
     ghost in_columns: { cells < 2 ^ 80 },
     ghost light: { weight < 2 ^ 16 },
-    ghost rows: { (z : ℕ) → z < 8 → has_bit between z ≡ is_between (has_row (field_of cells)) z },
+    ghost rows: { (z : ℕ) → z < 8 → has_bit between z ≡ is_between (is_filled_row (cells_by_column cells)) z },
 }
 
 impl Laid {

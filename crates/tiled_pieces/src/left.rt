@@ -1,10 +1,13 @@
 // What pieces have left of a set, and whether a further piece fits.
 ghost use Rattle.std.specs.Prelude.{ℕ, ◌≡◌, ◌≤◌, ◌<◌, ◌+◌, ◌*◌, ◌^◌, ◌&&◌};
 ghost use Rattle.lane_board.specs.Lanes.{has_bit};
-ghost use Rattle.tiled_pieces.specs.Words.{field_of, has_above, has_floor, has_row, is_filled};
+ghost use Rattle.well.specs.Counts.{is_filled_row};
+ghost use Rattle.empty_cells.specs.Empties.{cells_by_column};
+ghost use Rattle.tiled_pieces.specs.Words.{has_above, has_floor, is_filled};
 
 use crate::laid::Laid;
-use crate::words::{covered, filled, floors, rows_of, without};
+use crate::words::{covered, filled, floors, without};
+use empty_cells::rows_of;
 
 /// What is left of a set, and what a further piece must meet.
 #[derive(Clone, Copy)]
@@ -18,11 +21,11 @@ pub(crate) struct Left {
     /// The cells that no piece can take from above.
     covered: u128,
     ghost in_columns: { cells < 2 ^ 80 },
-    ghost has_rows: { (y : ℕ) → y < 8 → has_bit rows y ≡ has_row (field_of cells) y },
+    ghost has_rows: { (y : ℕ) → y < 8 → has_bit rows y ≡ is_filled_row (cells_by_column cells) y },
     ghost has_floors: { (x y : ℕ) → x ≤ 9 → y < 8
-        → has_bit floors (8 * x + y) ≡ has_floor (field_of cells) x y },
+        → has_bit floors (8 * x + y) ≡ has_floor (cells_by_column cells) x y },
     ghost has_covered: { (x y : ℕ) → x ≤ 9 → y < 8
-        → has_bit covered (8 * x + y) ≡ (drops && has_above (is_filled (field_of cells)) 8 x y) },
+        → has_bit covered (8 * x + y) ≡ (drops && has_above (is_filled (cells_by_column cells)) 8 x y) },
 }
 
 impl Left {
@@ -50,8 +53,8 @@ impl Left {
     /// Whether a piece can be put into what is left.
     #[inline(always)]
     pub(crate) fn fits(&self, piece: &Laid) -> bool
-        ensures { (kind : Piece) → IsTrue result ↔ Fits (field_of self.now.cells) self.now.drops
-            (record { piece = kind; cells = field_of piece.now.cells }) }
+        ensures { (kind : Piece) → IsTrue result ↔ Fits (cells_by_column self.now.cells) self.now.drops
+            (record { piece = kind; cells = cells_by_column piece.now.cells }) }
     {
         if without(piece.cells, self.cells) != 0 {
             return false;

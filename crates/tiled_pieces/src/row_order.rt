@@ -5,7 +5,7 @@ ghost use Rattle.empty_cells.specs.Empties.{empty_cells};
 ghost use Rattle.srs.specs.declared.piece.Piece.{Piece};
 ghost use Rattle.tiled_pieces.specs.TilingLists.{LaidPiece};
 
-use crate::words::{between, rows_of};
+use crate::words::between;
 use empty_cells::{Empties, has_row, lowest_row, without_row};
 
 /// Which rows go before which: bit `8 * z + r` is set if row `z` goes before row `r`.
@@ -51,7 +51,7 @@ impl RowOrder {
         if !self.is_kept {
             return Some(self);
         }
-        let rows = rows_of(cells.bits());
+        let rows = cells.rows();
         let gaps = between(rows);
         if gaps == 0 {
             return Some(self);

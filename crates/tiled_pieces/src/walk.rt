@@ -1,6 +1,7 @@
 // The walk over the sets of pieces.
 ghost use Rattle.std.specs.Prelude.{ℕ, ◌≡◌, ◌<◌, ◌≤◌, ◌+◌, ◌^◌, ◌↔◌, length, slice_index, true};
 ghost use Rattle.lane_board.specs.Lanes.{has_bit};
+ghost use Rattle.empty_cells.specs.Empties.{cells_by_column};
 ghost use Rattle.tiled_pieces.specs.Orders.{
   Carries,
   HasOrder,
@@ -9,7 +10,6 @@ ghost use Rattle.tiled_pieces.specs.Orders.{
   left_after,
   number_after,
 };
-ghost use Rattle.tiled_pieces.specs.Words.{field_of};
 
 use crate::laid::Laid;
 use crate::left::Left;
@@ -34,7 +34,7 @@ fn after(pieces: &[Laid], cells: u128, set: usize) -> (u128, usize)
     requires few { length pieces.now ≤ MOST_PIECES }
     requires small { cells < 2 ^ 80 }
     ensures small { result.0 < 2 ^ 80 }
-    ensures left { field_of result.0 ≡ left_after pieces.now (field_of cells) set (length pieces.now) }
+    ensures left { cells_by_column result.0 ≡ left_after pieces.now (cells_by_column cells) set (length pieces.now) }
     ensures number { result.1 ≡ number_after pieces.now set (length pieces.now) }
     ensures low { result.1 < 2 ^ 20 }
 {
@@ -77,7 +77,7 @@ fn carried(
     requires few { length pieces.now ≤ MOST_PIECES }
     requires number { number < 2 ^ 20 }
     ensures { (bit : ℕ) → has_bit result bit ≡ true ↔ IsCarried pieces.now left.now.drops allowed.now hands set
-        (field_of left.now.cells) number index bit }
+        (cells_by_column left.now.cells) number index bit }
 {
     if has(set, index) {
         return 0;
@@ -106,7 +106,7 @@ fn carry(
     requires few { length pieces.now ≤ MOST_PIECES }
     requires set { set < SETS }
     requires number { number < 2 ^ 20 }
-    ensures { Carries pieces.now left.now.drops allowed.now (slice_index table.old set) set (field_of left.now.cells)
+    ensures { Carries pieces.now left.now.drops allowed.now (slice_index table.old set) set (cells_by_column left.now.cells)
         number table.old table.new (length pieces.now) }
 {
     let hands = table[set];
@@ -129,7 +129,7 @@ fn visit(
     requires few { length pieces.now ≤ MOST_PIECES }
     requires set { set < SETS }
     requires small { cells < 2 ^ 80 }
-    ensures { Visits pieces.now drops allowed.now (field_of cells) set table.old table.new result }
+    ensures { Visits pieces.now drops allowed.now (cells_by_column cells) set table.old table.new result }
 {
     let hands = table[set];
     if hands == 0 {
@@ -173,7 +173,7 @@ pub(crate) fn served(
     requires few { length pieces.now ≤ MOST_PIECES }
     requires small { cells < 2 ^ 80 }
     ensures { (bit : ℕ) → has_bit result bit ≡ true
-        ↔ ((has_bit pending bit ≡ true) × HasOrder pieces.now drops allowed.now bit (field_of cells)) }
+        ↔ ((has_bit pending bit ≡ true) × HasOrder pieces.now drops allowed.now bit (cells_by_column cells)) }
 {
     let mut table = [0; SETS];
     table[0] = pending;

@@ -1,14 +1,9 @@
 // Sets of cells in columns 0 to 9 and rows 0 to 7 as numbers. Bit `8 * column + row` stands for a cell.
 ghost use Rattle.std.specs.Prelude.{ℕ, ◌≡◌, ◌≤◌, ◌<◌, ◌+◌, ◌*◌, ◌^◌, ◌&&◌, not, nat_lt};
 ghost use Rattle.lane_board.specs.Lanes.{has_bit};
-ghost use Rattle.tiled_pieces.specs.Words.{
-  field_of,
-  has_row,
-  is_filled,
-  has_floor,
-  has_above,
-  is_between,
-};
+ghost use Rattle.well.specs.Counts.{is_filled_row};
+ghost use Rattle.empty_cells.specs.Empties.{cells_by_column};
+ghost use Rattle.tiled_pieces.specs.Words.{is_filled, has_floor, has_above, is_between};
 
 /// The lowest row.
 const LOWEST: u128 = 0x0101_0101_0101_0101_0101;
@@ -19,17 +14,6 @@ pub(crate) fn in_rows(rows: u8) -> u128
     ensures { (x y : ℕ) → x ≤ 9 → y < 8 → has_bit result (8 * x + y) ≡ has_bit rows y }
 {
     u128::from(rows) * LOWEST
-}
-
-/// The rows in which a set has a cell.
-#[inline(always)]
-pub(crate) fn rows_of(cells: u128) -> u8
-    ensures { (y : ℕ) → y < 8 → has_bit result y ≡ has_row (field_of cells) y }
-{
-    let two = cells | cells >> 8;
-    let four = two | two >> 16;
-    let eight = four | four >> 32;
-    ((eight | two >> 64) & 255) as u8
 }
 
 /// The cells of one set that are not in another.
@@ -44,8 +28,8 @@ pub(crate) fn without(cells: u128, others: u128) -> u128
 /// The filled cells of rows that are not gone.
 #[inline(always)]
 pub(crate) fn filled(cells: u128, rows: u8) -> u128
-    requires { (y : ℕ) → y < 8 → has_bit rows y ≡ has_row (field_of cells) y }
-    ensures { (x y : ℕ) → x ≤ 9 → y < 8 → has_bit result (8 * x + y) ≡ is_filled (field_of cells) x y }
+    requires { (y : ℕ) → y < 8 → has_bit rows y ≡ is_filled_row (cells_by_column cells) y }
+    ensures { (x y : ℕ) → x ≤ 9 → y < 8 → has_bit result (8 * x + y) ≡ is_filled (cells_by_column cells) x y }
 {
     without(in_rows(rows), cells)
 }
@@ -53,11 +37,11 @@ pub(crate) fn filled(cells: u128, rows: u8) -> u128
 /// The cells that have a floor.
 #[inline(always)]
 pub(crate) fn floors(cells: u128, rows: u8, filled: u128) -> u128
-    requires rows { (y : ℕ) → y < 8 → has_bit rows y ≡ has_row (field_of cells) y }
+    requires rows { (y : ℕ) → y < 8 → has_bit rows y ≡ is_filled_row (cells_by_column cells) y }
     requires filled { (x y : ℕ) → x ≤ 9 → y < 8
-        → has_bit filled (8 * x + y) ≡ is_filled (field_of cells) x y }
+        → has_bit filled (8 * x + y) ≡ is_filled (cells_by_column cells) x y }
     ensures { (x y : ℕ) → x ≤ 9 → y < 8
-        → has_bit result (8 * x + y) ≡ has_floor (field_of cells) x y }
+        → has_bit result (8 * x + y) ≡ has_floor (cells_by_column cells) x y }
 {
     let mut floors = filled << 1 | LOWEST;
     for y in 0..7u8 {
@@ -80,7 +64,7 @@ fn lowered(cells: u128, by: u8) -> u128
 #[inline(always)]
 pub(crate) fn below(cells: u128) -> u128
     ensures { (x y : ℕ) → x ≤ 9 → y < 8
-        → has_bit result (8 * x + y) ≡ has_above (field_of cells) 8 x y }
+        → has_bit result (8 * x + y) ≡ has_above (cells_by_column cells) 8 x y }
 {
     let one = lowered(cells, 1);
     let two = one | lowered(one, 1);
@@ -92,7 +76,7 @@ pub(crate) fn below(cells: u128) -> u128
 #[inline(always)]
 pub(crate) fn covered(cells: u128, drops: bool) -> u128
     ensures { (x y : ℕ) → x ≤ 9 → y < 8
-        → has_bit result (8 * x + y) ≡ (drops && has_above (field_of cells) 8 x y) }
+        → has_bit result (8 * x + y) ≡ (drops && has_above (cells_by_column cells) 8 x y) }
 {
     if drops { below(cells) } else { 0 }
 }

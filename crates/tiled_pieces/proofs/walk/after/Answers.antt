@@ -1,18 +1,18 @@
 -- One more piece.
 use Rattle.std.proofs.Common.{sym, ap₂, ◌+◌, ◌∙◌, arith}
 use Rattle.lane_board.specs.Field.{difference}
-use Rattle.tiled_pieces.specs.Words.{field_of}
+use Rattle.empty_cells.specs.Empties.{cells_by_column}
 use Rattle.tiled_pieces.proofs.WalkLemmas.{cells_is, field_without, left_start, left_with, left_without, number_start, number_with, number_without, weight_is}
 use Rattle.tiled_pieces.proofs.walk.after.Goals as goal
 use Rattle.tiled_pieces.proofs.walk.after.Goals.{then-has, else-has}
 
 pub loop-index-init : goal.loop-index-init
-loop-index-init c = (c.requires.small, sym (left_start c.args.pieces.now (field_of c.args.cells) c.args.set), sym (number_start c.args.pieces.now c.args.set), omega arith)
+loop-index-init c = (c.requires.small, sym (left_start c.args.pieces.now (cells_by_column c.args.cells) c.args.set), sym (number_start c.args.pieces.now c.args.set), omega arith)
 
 pub loop-index-preserved : goal.loop-index-preserved
 loop-index-preserved c =
     let pieces = c.args.pieces.now in
-    let E = field_of c.args.cells in
+    let E = cells_by_column c.args.cells in
     let n = c.loop-index.index in
     let before = c.loop-index.invariant in
     elim c.if-has.branch [

@@ -8,4 +8,4 @@ returns-clause-small c = c.args.self.now.in_columns
 
 pub returns-clause-cells : goal.returns-clause-cells
 unfolding empty_cells
-returns-clause-cells c = λ x y. refl
+returns-clause-cells c = refl

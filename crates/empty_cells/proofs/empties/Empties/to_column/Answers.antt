@@ -5,7 +5,7 @@ use Rattle.std.proofs.lemmas.Nat.{and_mask}
 use Rattle.std.proofs.Math.Bool.{and-false}
 use Rattle.lane_board.specs.Lanes.{has_bit}
 use Rattle.lane_board.proofs.CallerLemmas.{has_bit-low, has_bit-past, has_bit-shifted_high, has_bit-shifted_low}
-use Rattle.empty_cells.specs.Empties.{empty_cells}
+use Rattle.empty_cells.specs.Empties.{cells_by_column, empty_cells}
 use Rattle.empty_cells.specs.ShiftedCells.{to_column}
 use Rattle.empty_cells.proofs.empties.Empties.to_column.Goals as goal
 
@@ -26,5 +26,5 @@ swapped : (p q r s : Bool) → (p && (q && (r && s))) ≡ (q && (r && (p && s)))
 swapped p q r s = search (rules, and-false)
 
 pub returns : goal.returns
-unfolding empty_cells to_column
+unfolding empty_cells cells_by_column to_column
 returns c = search (rules, cases_lt, bits, swapped, and_left, le-ltb, and_right)

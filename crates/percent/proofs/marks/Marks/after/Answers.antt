@@ -2,10 +2,9 @@
 use Rattle.std.proofs.Common.{All, Bool, true, false, List, [], ◌∷◌, ◌++◌, ◌≡◌, ◌<◌, ◌-◌, ◌∙◌, ℕ, sym, ap, subst, arith}
 use Rattle.std.specs.Prelude.{if◌then◌else◌}
 use Rattle.std.proofs.lemmas.List.Elements.{All-nil, All-push}
-use Rattle.std.specs.List.{list_any}
 use Rattle.lane_board.specs.Field.{Field, difference}
-use Rattle.lane_board.specs.FullRows.{columns}
 use Rattle.lane_board.specs.Lanes.{has_bit}
+use Rattle.well.specs.Counts.{is_filled_row}
 use Rattle.well.specs.Well.{filled}
 use Rattle.well.specs.Lock.{rows_removed, together}
 use Rattle.empty_cells.specs.Empties.{empty_cells}
@@ -69,8 +68,8 @@ invariant_of-result c =
     let kept = c.rows_among.result in
     let D : Field = difference E (sent_cells marks.rows q) in
     let cells_are : empty_cells c.without_cells-cells.result ≡ D = c.without_cells-cells.ensures ∙ ap (difference E) c.taken-taken.ensures in
-    let has_row : (y : ℕ) → y < 8 → has_bit c.rows.result y ≡ list_any (λ x. D x y) columns =
-    subst (λ (D : Field). (y : ℕ) → y < 8 → has_bit c.rows.result y ≡ list_any (λ x. D x y) columns) cells_are c.rows.ensures in
+    let has_row : (y : ℕ) → y < 8 → has_bit c.rows.result y ≡ is_filled_row D y =
+    subst (λ (D : Field). (y : ℕ) → y < 8 → has_bit c.rows.result y ≡ is_filled_row D y) cells_are c.rows.ensures in
     let few = p.few in
     let keeps = c.rows_among.ensures.kept (together F q) (λ y low. stays-with (together F q) D p.rows c.rows.result marks.rows (spread-placed F p.rows marks.rows E marks.spread q free is.below) has_row y low (omega arith)) in
     let after = spread-after F p.rows marks.rows kept E q few p.below marks.spread free is.below keeps c.rows_among.ensures.within (cells_small marks.cells).column in

@@ -2,13 +2,13 @@
 use Rattle.std.proofs.Common.{ℕ, bit_and, refl, arith}
 use Rattle.std.proofs.lemmas.Bool.{eq-eqb, eqb-true, false≢true}
 use Rattle.srs.specs.declared.piece.Piece.{Piece}
+use Rattle.empty_cells.specs.Empties.{cells_by_column}
 use Rattle.tiled_pieces.specs.TilingLists.{LaidPiece}
-use Rattle.tiled_pieces.specs.Words.{field_of}
 use Rattle.tiled_pieces.proofs.FitTests.{fits_from, none_between, none_covered, none_outside, some_floor}
 use Rattle.tiled_pieces.proofs.left.Left.fits.Goals as goal
 
 abbrev piece_of : Piece → ℕ → LaidPiece
-piece_of kind cells = record { piece = kind; cells = field_of cells }
+piece_of kind cells = record { piece = kind; cells = cells_by_column cells }
 
 pub returns-then-without-ne0 : goal.returns-then-without-ne0
 returns-then-without-ne0 c = λ kind.
