@@ -10,7 +10,7 @@ mod line;
 mod run;
 mod tail;
 
-pub use fumen_line::{FumenWriter, write_fumen_line};
+pub use fumen_line::FumenWriter;
 pub use grid::write_grid;
 pub use keys::WrittenKeys;
 pub use line::write_line;
