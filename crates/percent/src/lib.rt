@@ -18,5 +18,4 @@ mod spread;
 mod start;
 
 pub use answers::Answers;
-pub use queue_lines::rate;
 pub use start::solvable;

@@ -14,6 +14,5 @@ pub use fumen_line::FumenWriter;
 pub use grid::write_grid;
 pub use keys::WrittenKeys;
 pub use line::write_line;
-pub use page_show::show_page;
 pub use run::write_run;
 pub use tail::{Tail, write_floods, write_tail};
