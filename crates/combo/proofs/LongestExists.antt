@@ -29,6 +29,7 @@ use Rattle.hold_queue.specs.Permits.{permits}
 use Rattle.hold_queue.proofs.CallerLemmas.{Contains-piece, permits-decides, takes-length, takes-of_permits}
 use Rattle.combo.specs.Longest.{IsLongest, IsPermittedRun}
 use Rattle.problem.specs.Runs.{Runs}
+use Rattle.problem.specs.Solution.{pieces_of}
 
 -- ---- the best of a list
 
@@ -179,7 +180,7 @@ module _ (table : Table) (mode : DropMode) where
 
   module _ (F : Field) (hold : Hold) (queue : List Piece) (held : Option Piece) where
     is_permitted : List Placement → Bool
-    is_permitted run = permits hold queue held (map (λ (placement : Placement). placement.piece) run)
+    is_permitted run = permits hold queue held (pieces_of run)
 
     most : ℕ
     most = length (at_hand hold held queue)
@@ -191,7 +192,7 @@ module _ (table : Table) (mode : DropMode) where
     unfolding all_permitted is_permitted
     permitted-is run among =
         let both = Contains-from_filter is_permitted (runs_within most F) run among in
-        record { runs = are_runs most F run both.0; permitted = (permits-decides hold queue held (map (λ (placement : Placement). placement.piece) run)).0 both.1 }
+        record { runs = are_runs most F run both.0; permitted = (permits-decides hold queue held (pieces_of run)).0 both.1 }
 
     within : (run : List Placement) → IsPermittedRun table mode F hold queue held run → length run ≤ most
     unfolding most
@@ -203,7 +204,7 @@ module _ (table : Table) (mode : DropMode) where
     permitted-there run member =
         Contains-filter is_permitted (runs_within most F) run
         (has_runs most F run (within run member) member.runs)
-        ((permits-decides hold queue held (map (λ (placement : Placement). placement.piece) run)).1 member.permitted)
+        ((permits-decides hold queue held (pieces_of run)).1 member.permitted)
 
     longest_of : (list : List (List Placement)) → ((run : List Placement) → Contains list run → IsPermittedRun table mode F hold queue held run)
         → ((run : List Placement) → IsPermittedRun table mode F hold queue held run → Contains list run) → (run : List Placement) × IsLongest table mode F hold queue held run

@@ -1,5 +1,5 @@
 -- The first of the runs of so many placements.
-use Rattle.std.specs.Prelude.{◌≡◌, ◌≢◌, ℕ, ◌≤◌, ◌<◌, false, List, [], ◌∷◌, length, map, Option, Some, None}
+use Rattle.std.specs.Prelude.{◌≡◌, ◌≢◌, ℕ, ◌≤◌, ◌<◌, false, List, [], ◌∷◌, length, Option, Some, None}
 use Rattle.std.specs.declared.cmp.Ordering.TheVariants.{Less}
 use Rattle.lane_board.specs.Field.{Field}
 use Rattle.srs.specs.Rising.{is_above}
@@ -15,6 +15,7 @@ use Rattle.hold_queue.specs.declared.hold.Hold.{Hold}
 use Rattle.hold_queue.specs.AtHand.{Takes}
 use Rattle.hold_queue.specs.Hand.{pieces_at}
 use Rattle.problem.specs.Runs.{Runs}
+use Rattle.problem.specs.Solution.{pieces_of}
 
 -- one of them with so many placements, and none of them with as many comes before it
 pub record IsFirst (IsMember : List Placement → Type 0) (count : ℕ) (run : List Placement) : Type 0 where
@@ -30,7 +31,7 @@ pub record AreShorter (IsMember : List Placement → Type 0) (count : ℕ) : Typ
 pub record IsTakenRun (table : Table) (mode : DropMode) (F : Field) (hold : Hold) (hand : List Piece)
     (run : List Placement) : Type 0 where
   pub runs : Runs table mode F run
-  pub taken : Takes hold hand (map (λ placement. placement.piece) run)
+  pub taken : Takes hold hand (pieces_of run)
 
 -- no placement; or first one of a taken piece that removes a row, and then a run of the pieces that are left
 abbrev pub RunsOn : Table → DropMode → Hold → Field → List Piece → Taken → List Placement → Type 0
