@@ -24,10 +24,10 @@ use Rattle.hold_queue.proofs.CallerLemmas.{permits-decides}
 use Rattle.problem.specs.declared.problem.Problem.{Problem}
 use Rattle.problem.specs.Plays.{Plays}
 use Rattle.problem.specs.Problem.{IsFit}
-use Rattle.problem.specs.Solution.{pieces_of}
+use Rattle.problem.specs.Solution.{PlaysIn, pieces_of}
 use Rattle.problem.proofs.CallerLemmas.{IsLow, filled-low, locked-low}
 use Rattle.moves.proofs.CallerLemmas.{is_place-decides, place-free}
-use Rattle.cover.specs.Covered.{IsCovered, IsCoveredList, PlaysIn}
+use Rattle.cover.specs.Covered.{IsCovered, IsCoveredList}
 
 -- ---- whether a sequence clears a field
 

@@ -11,8 +11,8 @@ use Rattle.hold_queue.specs.declared.hold.Hold.{Hold}
 use Rattle.hold_queue.specs.declared.hold.Hold.TheVariants.{Allowed}
 use Rattle.hold_queue.specs.Permits.{Permits, Way, plain, exchange, first_hold, last}
 use Rattle.problem.specs.declared.problem.Problem.{Problem}
-use Rattle.problem.specs.Solution.{pieces_of}
-use Rattle.cover.specs.Covered.{IsCovered, IsNextFrom, Keeps, PlaysIn}
+use Rattle.problem.specs.Solution.{PlaysIn, pieces_of}
+use Rattle.cover.specs.Covered.{IsCovered, IsNextFrom, Keeps}
 
 abbrev two_queues : List (List Piece)
 two_queues = (T ∷ I ∷ []) ∷ (T ∷ T ∷ []) ∷ []

@@ -4,19 +4,11 @@ use Rattle.std.specs.Ordering.{nat_cmp}
 use Rattle.srs.specs.Rising.{IsRisingListOf}
 use Rattle.srs.specs.declared.piece.Piece.{Piece}
 use Rattle.srs.specs.declared.placement.Placement.{Placement}
-use Rattle.srs.specs.Rules.{table_of}
-use Rattle.well.specs.Well.{filled}
 use Rattle.queue_pattern.specs.Pattern.{elements_of}
 use Rattle.queue_pattern.specs.Queues.{queues}
 use Rattle.hold_queue.specs.Permits.{Permits}
 use Rattle.problem.specs.declared.problem.Problem.{Problem}
-use Rattle.problem.specs.Plays.{Plays}
-use Rattle.problem.specs.Solution.{pieces_of}
-
--- the sequence clears the field of the problem
-abbrev pub PlaysIn : Problem → List Placement → Type 0
-PlaysIn problem sequence =
-    Plays (table_of problem.rules) problem.drop_mode (filled problem.well) problem.height sequence
+use Rattle.problem.specs.Solution.{PlaysIn, pieces_of}
 
 -- the queue with this number permits one of these lists of kinds
 pub record IsPermitted (problem : Problem) (lists : List (List Piece)) (number : ℕ) : Type 0 where

@@ -2,8 +2,8 @@
 ghost use Rattle.std.specs.Prelude.{◌≡◌, ◌+◌, ◌≤◌, ◌↔◌, IsTrue, length};
 ghost use Rattle.srs.specs.Rules.{table_of};
 ghost use Rattle.problem.specs.Problem.{IsFit};
+ghost use Rattle.problem.specs.Solution.{PlaysIn};
 ghost use Rattle.reach.specs.FloodRules.{flood_table};
-ghost use Rattle.cover.specs.Covered.{PlaysIn};
 
 use problem::{Problem, Sequence, lies_below};
 use reach::{FloodRules, Steps};

@@ -55,8 +55,8 @@ impl CoverSet {
     ghost use Rattle.std.specs.Prelude.{◌+◌, ◌≤◌, ◌↔◌, [], IfOk, IsOk, OnErr, IsTrue, length};
     ghost use Rattle.queue_pattern.specs.Pattern.{elements_of};
     ghost use Rattle.queue_pattern.specs.Queues.{queues};
-    ghost use Rattle.problem.specs.Solution.{pieces_of};
-    ghost use Rattle.cover.specs.Covered.{Adds, IsNextFrom, IsPermitted, PlaysIn};
+    ghost use Rattle.problem.specs.Solution.{PlaysIn, pieces_of};
+    ghost use Rattle.cover.specs.Covered.{Adds, IsNextFrom, IsPermitted};
     ghost use Rattle.cover.specs.Kept.{lists_of, kept_problem};
 
     /// A set for a fit problem that keeps nothing yet. The only refusal is that memory runs out.

@@ -18,8 +18,8 @@ use Rattle.queue_pattern.specs.Queues.{queues}
 use Rattle.hold_queue.specs.declared.hold.Hold.{Hold}
 use Rattle.hold_queue.specs.Permits.{Permits, permits}
 use Rattle.problem.specs.declared.problem.Problem.{Problem}
-use Rattle.problem.specs.Solution.{pieces_of}
-use Rattle.cover.specs.Covered.{Adds, IsCovered, IsCoveredList, IsLeastFrom, IsPermitted, Keeps, PlaysIn}
+use Rattle.problem.specs.Solution.{PlaysIn, pieces_of}
+use Rattle.cover.specs.Covered.{Adds, IsCovered, IsCoveredList, IsLeastFrom, IsPermitted, Keeps}
 use Rattle.queue_lines.specs.Lines.{queue_form}
 use Rattle.pc_cover.specs.Lines.{queues_form}
 use Rattle.pc_cover.specs.Sequences.{listed_placements}

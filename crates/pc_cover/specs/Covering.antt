@@ -7,8 +7,7 @@ use Rattle.queue_pattern.specs.Pattern.{elements_of}
 use Rattle.queue_pattern.specs.Queues.{queues}
 use Rattle.hold_queue.specs.Permits.{permits}
 use Rattle.problem.specs.declared.problem.Problem.{Problem}
-use Rattle.problem.specs.Solution.{pieces_of}
-use Rattle.cover.specs.Covered.{PlaysIn}
+use Rattle.problem.specs.Solution.{PlaysIn, pieces_of}
 
 -- the kinds of one of these sequences, which clears the field
 pub record AreKinds (problem : Problem) (sequences : List (List Placement)) (kinds : List Piece) : Type 0 where

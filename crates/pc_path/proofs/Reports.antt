@@ -4,10 +4,8 @@ use Rattle.std.specs.List.{flat_map}
 use Rattle.std.proofs.Math.Dec.{leb-suc-suc, leb-suc-zero}
 use Rattle.pc_outside.specs.Writes.{GrowsUpTo}
 use Rattle.pc_outside.specs.WriteLaws.{begins}
-use Rattle.srs.specs.Rules.{table_of}
-use Rattle.well.specs.Well.{filled}
 use Rattle.problem.specs.declared.problem.Problem.{Problem}
-use Rattle.problem.specs.Plays.{Plays}
+use Rattle.problem.specs.Solution.{PlaysIn}
 use Rattle.problem.specs.SolutionList.{View, IsList}
 use Rattle.srs.specs.declared.placement.Placement.{Placement}
 use Rattle.report.specs.Forms.{tail_form, report_form}
@@ -81,6 +79,5 @@ pub left_as : {old new : Option (List ℕ)} {whole left rest : List ℕ} → lef
 left_as {old} {new} {whole} same grown = subst (λ rest. GrowsUpTo old new whole rest) same grown
 
 -- a solution plays in its problem
-pub next_plays : (problem : Problem) (view : View) (sequence : List Placement) (rest : List (List Placement)) (all : List (List Placement)) → view.problem ≡ problem → IsList view all → all ≡ sequence ∷ rest →
-    Plays (table_of problem.rules) problem.drop_mode (filled problem.well) problem.height sequence
+pub next_plays : (problem : Problem) (view : View) (sequence : List Placement) (rest : List (List Placement)) (all : List (List Placement)) → view.problem ≡ problem → IsList view all → all ≡ sequence ∷ rest → PlaysIn problem sequence
 next_plays problem view sequence rest all same list first = search rules

@@ -1,9 +1,7 @@
 // Writing a solution in the format that is asked for.
 ghost use Rattle.std.specs.Prelude.{◌≡◌, ◌≢◌, Err, IfOk, IsOk};
-ghost use Rattle.srs.specs.Rules.{table_of};
-ghost use Rattle.well.specs.Well.{filled};
 ghost use Rattle.pc_outside.specs.Writes.{WritesAll};
-ghost use Rattle.problem.specs.Plays.{Plays};
+ghost use Rattle.problem.specs.Solution.{PlaysIn};
 ghost use Rattle.line_writing.specs.WriteCause.{HasWriteCause};
 ghost use Rattle.pc_path.specs.Writer.{IsNewForm, format_of};
 
@@ -70,8 +68,7 @@ impl SolutionWriter {
         problem: &Problem,
         sequence: &Sequence,
     ) -> Result<(), WriteFault>
-        requires { Plays (table_of problem.now.rules) problem.now.drop_mode
-            (filled problem.now.well) problem.now.height sequence.now.items }
+        requires { PlaysIn problem.now sequence.now.items }
         ensures written { WritesAll (O.written out.old) (O.written out.new) result
             (form_of self.old problem.now sequence.now.items) }
         ensures cause { HasWriteCause O.counts_failures_alone (O.faults out.old) (O.faults out.new) result }

@@ -12,6 +12,7 @@ use Rattle.moves.specs.declared.key.DropMode.{DropMode}
 use Rattle.problem.specs.declared.problem.Problem.{Problem}
 use Rattle.problem.specs.Plays.{Plays}
 use Rattle.problem.specs.Problem.{IsFit, empties_of, needed_of}
+use Rattle.problem.specs.Solution.{PlaysIn}
 use Rattle.problem.proofs.Game.{IsLow, filled-low, locked-count, locked-low, removed-within}
 use Rattle.moves.proofs.CallerLemmas.{place-free}
 
@@ -44,18 +45,18 @@ plays-count table mode F rows (q ∷ s) low plays =
     let rest = plays-count table mode (locked F q) (rows - rows_removed F q) s (locked-low F rows q low plays.1 free) plays.2 in
     omega (arith, rest, locked-count F q free, removed-within F rows q low plays.1)
 
-empties-filled : (problem : Problem) → IsFit problem → (s : List Placement) → Plays (table_of problem.rules) problem.drop_mode (filled problem.well) problem.height s → empties_of problem ≡ 4 * length s
+empties-filled : (problem : Problem) → IsFit problem → (s : List Placement) → PlaysIn problem s → empties_of problem ≡ 4 * length s
 empties-filled problem fit s plays =
     let low = filled-low problem.well problem.height (omega (arith, fit.field.fit.low)) fit.field.below in
     let whole = plays-count (table_of problem.rules) problem.drop_mode (filled problem.well) problem.height s low plays in
     let same = count-low (filled problem.well) problem.height 23 low.none (omega (arith, fit.field.fit.low)) in
     omega (arith, whole, same)
 
-pub long-needed : (problem : Problem) → IsFit problem → (s : List Placement) → Plays (table_of problem.rules) problem.drop_mode (filled problem.well) problem.height s → length s ≡ needed_of problem
+pub long-needed : (problem : Problem) → IsFit problem → (s : List Placement) → PlaysIn problem s → length s ≡ needed_of problem
 long-needed problem fit s plays = omega (arith, empties-filled problem fit s plays)
 
 -- so the empty cells are a multiple of four
-pub needed-exact : (problem : Problem) → IsFit problem → (s : List Placement) → Plays (table_of problem.rules) problem.drop_mode (filled problem.well) problem.height s → empties_of problem % 4 ≡ 0
+pub needed-exact : (problem : Problem) → IsFit problem → (s : List Placement) → PlaysIn problem s → empties_of problem % 4 ≡ 0
 needed-exact problem fit s plays = omega (arith, empties-filled problem fit s plays)
 
 pub needed-few : (problem : Problem) → IsFit problem → needed_of problem ≤ 20

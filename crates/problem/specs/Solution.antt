@@ -19,7 +19,12 @@ abbrev pub queues_that_count : Problem → Option (List Piece) → List (List Pi
 queues_that_count problem None = queues (elements_of problem.pattern)
 queues_that_count problem (Some queue) = queue ∷ []
 
+-- the sequence clears the field of the problem
+abbrev pub PlaysIn : Problem → List Placement → Type 0
+PlaysIn problem sequence =
+    Plays (table_of problem.rules) problem.drop_mode (filled problem.well) problem.height sequence
+
 -- the sequence clears the field, and one of the queues permits its pieces
 pub record IsSolution (problem : Problem) (queue : Option (List Piece)) (sequence : List Placement) : Type 0 where
-  pub plays : Plays (table_of problem.rules) problem.drop_mode (filled problem.well) problem.height sequence
+  pub plays : PlaysIn problem sequence
   pub permitted : SomePermits problem.hold (queues_that_count problem queue) problem.held (pieces_of sequence)

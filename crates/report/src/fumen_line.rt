@@ -4,7 +4,7 @@ ghost use Rattle.srs.specs.Cells.{is_inside_of};
 ghost use Rattle.srs.specs.Rules.{table_of};
 ghost use Rattle.well.specs.Well.{filled};
 ghost use Rattle.pc_outside.specs.Writes.{WritesAll};
-ghost use Rattle.problem.specs.Plays.{Plays};
+ghost use Rattle.problem.specs.Solution.{PlaysIn};
 ghost use Rattle.moves.specs.Keys.{key_letter};
 ghost use Rattle.report.specs.Forms.{key_part};
 ghost use Rattle.fumen_digits.specs.declared.dialect.Dialect.TheVariants.{V115};
@@ -59,8 +59,7 @@ impl FumenWriter {
         sequence: &Sequence,
         keys: &mut WrittenKeys,
     ) -> Result<(), WriteFault>
-        requires { Plays (table_of problem.now.rules) problem.now.drop_mode
-            (filled problem.now.well) problem.now.height sequence.now.items }
+        requires { PlaysIn problem.now sequence.now.items }
         ensures written { WritesAll (O.written out.old) (O.written out.new) result
             (fumen_form (key_part (has_keys keys.old) (table_of problem.now.rules) problem.now.drop_mode)
             (filled problem.now.well) sequence.now.items) }
@@ -82,8 +81,7 @@ impl FumenWriter {
         placements: &[Placement],
         keys: &mut WrittenKeys,
     ) -> Result<Vec<u8>, NoMemory>
-        requires plays { Plays (table_of problem.now.rules) problem.now.drop_mode
-            (filled problem.now.well) problem.now.height placements.now }
+        requires plays { PlaysIn problem.now placements.now }
         requires few { length placements.now ≤ 22 }
         ensures text { IfOk result (λ text. text.items
             ≡ fumen_form (key_part (has_keys keys.old) (table_of problem.now.rules) problem.now.drop_mode)
@@ -102,8 +100,7 @@ impl FumenWriter {
         placements: &[Placement],
         keys: &mut WrittenKeys,
     ) -> Result<(), NoMemory>
-        requires plays { Plays (table_of problem.now.rules) problem.now.drop_mode
-            (filled problem.now.well) problem.now.height placements.now }
+        requires plays { PlaysIn problem.now placements.now }
         requires few { length placements.now ≤ 22 }
         ensures pages { OnOk result (self.new.pages.items
             ≡ sequence_pages (key_part (has_keys keys.old) (table_of problem.now.rules) problem.now.drop_mode)

@@ -7,7 +7,7 @@ ghost use Rattle.srs.specs.SameCells.{is_among};
 ghost use Rattle.well.specs.Well.{filled};
 ghost use Rattle.pc_outside.specs.Counts.{HasCause};
 ghost use Rattle.pc_outside.specs.Writes.{WritesAll};
-ghost use Rattle.problem.specs.Plays.{Plays};
+ghost use Rattle.problem.specs.Solution.{PlaysIn};
 ghost use Rattle.report.specs.Forms.{key_part};
 ghost use Rattle.report.specs.Keys.{has_keys};
 ghost use Rattle.report.specs.Grid.{grid_form, grid_letter, grid_pictures, grid_row, grid_rows};
@@ -39,8 +39,7 @@ pub fn write_grid<O: Sink>(
     sequence: &Sequence,
     keys: &mut WrittenKeys,
 ) -> Result<(), Failed>
-    requires { Plays (table_of problem.now.rules) problem.now.drop_mode
-        (filled problem.now.well) problem.now.height sequence.now.items }
+    requires { PlaysIn problem.now sequence.now.items }
     ensures written { WritesAll (O.written out.old) (O.written out.new) result
         (grid_form (key_part (has_keys keys.old) (table_of problem.now.rules) problem.now.drop_mode)
         (filled problem.now.well) problem.now.height sequence.now.items) }
@@ -57,8 +56,7 @@ fn write_pictures<O: Sink>(
     problem: &Problem,
     placements: &[Placement],
 ) -> Result<(), Failed>
-    requires { Plays (table_of problem.now.rules) problem.now.drop_mode
-        (filled problem.now.well) problem.now.height placements.now }
+    requires { PlaysIn problem.now placements.now }
     ensures written { WritesAll (O.written out.old) (O.written out.new) result
         (grid_pictures (filled problem.now.well) problem.now.height placements.now) }
     ensures cause { HasCause O.counts_failures_alone (O.faults out.old) (O.faults out.new) result }

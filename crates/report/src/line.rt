@@ -4,7 +4,7 @@ ghost use Rattle.srs.specs.Rules.{table_of};
 ghost use Rattle.well.specs.Well.{filled};
 ghost use Rattle.pc_outside.specs.Counts.{HasCause};
 ghost use Rattle.pc_outside.specs.Writes.{GrowsByFront, WritesAll};
-ghost use Rattle.problem.specs.Plays.{Plays};
+ghost use Rattle.problem.specs.Solution.{PlaysIn};
 ghost use Rattle.sequence_text.specs.Written.{keyed_form, sequence_form, without_keys};
 ghost use Rattle.report.specs.Forms.{key_part, line_form};
 ghost use Rattle.report.specs.HandsOn.{HandsOn};
@@ -127,8 +127,7 @@ pub fn write_line<O: Sink>(
     sequence: &Sequence,
     keys: &mut WrittenKeys,
 ) -> Result<(), Failed>
-    requires { Plays (table_of problem.now.rules) problem.now.drop_mode
-        (filled problem.now.well) problem.now.height sequence.now.items }
+    requires { PlaysIn problem.now sequence.now.items }
     ensures written { WritesAll (O.written out.old) (O.written out.new) result
         (line_form (key_part (has_keys keys.old) (table_of problem.now.rules) problem.now.drop_mode)
         (filled problem.now.well) sequence.now.items) }

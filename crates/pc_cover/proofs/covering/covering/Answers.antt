@@ -1,7 +1,7 @@
 -- One more sequence is looked at.
 use Rattle.std.proofs.Common.{◌≡◌, ◌∙◌, ◌+◌, ◌++◌, ◌∷◌, ◌↔◌, [], IsTrue, length, map, take, sum_by, sym, ap, subst, arith, rules}
 use Rattle.std.proofs.lemmas.List.{map_more, take_all}
-use Rattle.cover.specs.Covered.{PlaysIn}
+use Rattle.problem.specs.Solution.{PlaysIn}
 use Rattle.cover.specs.Kept.{lists_of}
 use Rattle.pc_cover.specs.Covering.{KeepsKindsOf}
 use Rattle.pc_cover.specs.Sequences.{listed_placements}
