@@ -5,7 +5,7 @@ use Rattle.well.specs.Counts.{empties_below, lowest_full, lowest_filled_from}
 use Rattle.queue_pattern.specs.declared.element.Element.{Element}
 use Rattle.queue_pattern.specs.declared.fault.PatternFault.{PatternFault}
 use Rattle.queue_pattern.specs.Queues.{queue_len}
-use Rattle.problem.specs.Problem.{held_count}
+use Rattle.hold_queue.specs.AtHand.{count_held, playable}
 use Rattle.pc_faults.specs.declared.fault.Fault.TheVariants as faults
 use Rattle.pc_faults.specs.Inner.{IsInner}
 use Rattle.pc_faults.proofs.CallerLemmas.{inner_first, inner_map, inner_test}
@@ -48,4 +48,4 @@ unfolding problem_fault
 inner_problem request F =
     inner_first _ _ (inner_rows F request.height)
     (inner_first _ _ (inner_pattern (elements_asked request))
-    (inner_first _ [] (inner_pieces (empties_below F request.height) (held_count request.hold request.held) (elements_asked request)) tt))
+    (inner_first _ [] (inner_pieces (empties_below F request.height) (count_held (playable request.hold request.held)) (elements_asked request)) tt))

@@ -6,11 +6,12 @@ use Rattle.well.specs.Well.{filled}
 use Rattle.well.specs.Counts.{empties_below, lowest_full, lowest_filled_from}
 use Rattle.queue_pattern.specs.Pattern.{elements_of}
 use Rattle.queue_pattern.specs.Queues.{queue_len}
+use Rattle.hold_queue.specs.AtHand.{count_held, playable}
 use Rattle.problem.specs.declared.problem.Problem.{Problem}
 use Rattle.problem.specs.declared.fault.ProblemFault.{ProblemFault}
 use Rattle.problem.specs.declared.fault.ProblemFault.TheVariants.{BadHeight, FieldTooHigh, FullRow, TooFewPieces}
 use Rattle.problem.specs.Faults.{IsFirstFault}
-use Rattle.problem.specs.Problem.{empties_of, held_count}
+use Rattle.problem.specs.Problem.{empties_of}
 use Rattle.pc_faults.specs.declared.fault.Fault.{Fault}
 use Rattle.pc_faults.specs.declared.fault.Fault.TheVariants as faults
 use Rattle.pc_faults.specs.FirstFault.{first_of_these}
@@ -56,14 +57,14 @@ told-first request problem height hold held read rows (FieldTooHigh row) named f
 told-first request problem height hold held read rows (FullRow row) named first is = absurd (no_full (filled problem.well) problem.height row rows first.1 first.2)
 told-first request problem height hold held read rows (TooFewPieces have need) named first is =
     third (filled_rows_fault (filled problem.well) request.height) (pattern_fault (elements_asked request))
-    (pieces_fault (empties_below (filled problem.well) request.height) (held_count request.hold request.held) (elements_asked request)) named
+    (pieces_fault (empties_below (filled problem.well) request.height) (count_held (playable request.hold request.held)) (elements_asked request)) named
     (ap (filled_rows_fault (filled problem.well)) height ∙ rows) (ap pattern_fault read) (pieces ∙ is)
   where
-    at_hand : queue_len (elements_of problem.pattern) + held_count request.hold request.held ≡ have
-    at_hand = (λ i. queue_len (elements_of problem.pattern) + held_count (hold i) (held i)) ∙ sym first.1
+    at_hand : queue_len (elements_of problem.pattern) + count_held (playable request.hold request.held) ≡ have
+    at_hand = (λ i. queue_len (elements_of problem.pattern) + count_held (playable (hold i) (held i))) ∙ sym first.1
 
-    pieces : pieces_fault (empties_below (filled problem.well) request.height) (held_count request.hold request.held) (elements_asked request) ≡ Some (faults.TooFewPieces have need)
+    pieces : pieces_fault (empties_below (filled problem.well) request.height) (count_held (playable request.hold request.held)) (elements_asked request) ≡ Some (faults.TooFewPieces have need)
     pieces =
-        ap (pieces_fault (empties_below (filled problem.well) request.height) (held_count request.hold request.held)) read
+        ap (pieces_fault (empties_below (filled problem.well) request.height) (count_held (playable request.hold request.held))) read
         ∙ (λ i. too_few (empties_below (filled problem.well) (height i)) (at_hand i))
         ∙ few (empties_of problem) have need first.3 first.2 first.4

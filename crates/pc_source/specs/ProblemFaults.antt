@@ -7,7 +7,7 @@ use Rattle.queue_pattern.specs.declared.element.Element.{Element}
 use Rattle.queue_pattern.specs.declared.fault.PatternFault.{PatternFault}
 use Rattle.queue_pattern.specs.Grammar.{elements, limited}
 use Rattle.queue_pattern.specs.Queues.{queue_len}
-use Rattle.problem.specs.Problem.{held_count}
+use Rattle.hold_queue.specs.AtHand.{count_held, playable}
 use Rattle.pc_faults.specs.declared.fault.Fault.{Fault}
 use Rattle.pc_faults.specs.declared.fault.Fault.TheVariants as faults
 use Rattle.pc_faults.specs.FirstFault.{first_of_these}
@@ -50,7 +50,7 @@ unfoldable pub problem_fault : FieldRequest → Field → Option Fault
 problem_fault request F = first_of_these (
     filled_rows_fault F request.height
     ∷ pattern_fault (elements_asked request)
-    ∷ pieces_fault (empties_below F request.height) (held_count request.hold request.held) (elements_asked request)
+    ∷ pieces_fault (empties_below F request.height) (count_held (playable request.hold request.held)) (elements_asked request)
     ∷ [])
 
 -- the text of the field, and then what is asked about the field

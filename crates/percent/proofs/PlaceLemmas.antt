@@ -93,8 +93,8 @@ one-or-other q p = at (placement_cmp q p) refl
     at Greater e = inr (λ same. let tie = tied same in cc)
 
 -- how many of a piece's placements are held
-pub held_count : LowPlaces → Piece → ℕ
-held_count places piece = length (filter (holds places) (placements_of piece))
+pub count_places_held : LowPlaces → Piece → ℕ
+count_places_held places piece = length (filter (holds places) (placements_of piece))
 
 -- ---- the positions after the places
 
@@ -126,8 +126,8 @@ module _ (game : Game) (F : Field) (rows : ℕ) (piece : Piece) (left : ℕ) (ha
   pub taken : IsLowPlace game F rows piece q
   taken = state.held q least.member
 
-  pub taken-fewer : held_count new piece < held_count old piece
-  unfolding held_count
+  pub taken-fewer : count_places_held new piece < count_places_held old piece
+  unfolding count_places_held
   taken-fewer =
       fewer (holds old) (holds new) (λ p is. ((rest p).0 is).0) q least.member (false_from_ne_true _ (λ e. ((rest q).0 e).1 refl)) (placements_of piece) (listed game F rows piece q taken)
 

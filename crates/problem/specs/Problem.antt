@@ -1,23 +1,16 @@
 -- Which problems have a meaning, and how many placements each solution of one has.
-use Rattle.std.specs.Prelude.{◌≡◌, ℕ, ◌+◌, ◌/◌, ◌%◌, ◌≤◌, Option, Some, None}
+use Rattle.std.specs.Prelude.{◌≡◌, ℕ, ◌+◌, ◌/◌, ◌%◌, ◌≤◌, None}
 use Rattle.lane_board.specs.Field.{Field}
 use Rattle.well.specs.Well.{filled}
 use Rattle.well.specs.Counts.{empties_below, lowest_full, lowest_filled_from}
 use Rattle.queue_pattern.specs.Pattern.{elements_of}
 use Rattle.queue_pattern.specs.Queues.{queue_len}
-use Rattle.srs.specs.declared.piece.Piece.{Piece}
-use Rattle.hold_queue.specs.declared.hold.Hold.{Hold}
-use Rattle.hold_queue.specs.declared.hold.Hold.TheVariants.{Allowed}
+use Rattle.hold_queue.specs.AtHand.{count_held, playable}
 use Rattle.problem.specs.declared.problem.Problem.{Problem}
-
--- a piece held at the start may be played where hold is allowed
-abbrev pub held_count : Hold → Option Piece → ℕ
-held_count Allowed (Some piece) = 1
-held_count _ _ = 0
 
 -- the pieces of a queue and, where it may be played, the held one
 abbrev pub pieces_at_hand : Problem → ℕ
-pieces_at_hand problem = queue_len (elements_of problem.pattern) + held_count problem.hold problem.held
+pieces_at_hand problem = queue_len (elements_of problem.pattern) + count_held (playable problem.hold problem.held)
 
 -- the empty cells below the height
 abbrev pub empties_of : Problem → ℕ

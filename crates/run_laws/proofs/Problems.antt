@@ -15,8 +15,9 @@ use Rattle.queue_pattern.specs.declared.pattern.Pattern.{Pattern}
 use Rattle.queue_pattern.specs.Grammar.{elements, limited}
 use Rattle.queue_pattern.specs.Pattern.{elements_of}
 use Rattle.queue_pattern.specs.Queues.{queue_len}
+use Rattle.hold_queue.specs.AtHand.{count_held, playable}
 use Rattle.problem.specs.declared.problem.Problem.{Problem}
-use Rattle.problem.specs.Problem.{IsFit, held_count}
+use Rattle.problem.specs.Problem.{IsFit}
 use Rattle.pc_faults.specs.declared.fault.Fault.{Fault}
 use Rattle.pc_faults.specs.declared.fault.Fault.TheVariants as faults
 use Rattle.pc_faults.specs.FirstFault.{first_of_these}
@@ -105,7 +106,7 @@ record IsRight (request : FieldRequest) (F : Field) (es : List Element) : Type 0
   read : asked.elements_asked request ≡ Ok es
   below : lowest_filled_from F request.height ≡ None
   open_rows : lowest_full F ≡ None
-  enough : empties_below F request.height % 4 ≡ 0 → empties_below F request.height / 4 ≤ queue_len es + held_count request.hold request.held
+  enough : empties_below F request.height % 4 ≡ 0 → empties_below F request.height / 4 ≤ queue_len es + count_held (playable request.hold request.held)
 
 asked_of : (request : FieldRequest) (F : Field) → asked.problem_fault request F ≡ None → (es : List Element) × IsRight request F es
 unfolding asked.problem_fault asked.filled_rows_fault
@@ -149,8 +150,8 @@ problem-made patterns request F table range lies read small none =
           below = ap (λ G. lowest_filled_from G request.height) well.1 ∙ found.1.below;
           open_rows = ap lowest_full well.1 ∙ found.1.open_rows;
         };
-        enough = λ four. subst (λ es. empties_below (filled well.0) request.height / 4 ≤ queue_len es + held_count request.hold request.held) (sym pattern.1)
-            (subst (λ G. empties_below G request.height / 4 ≤ queue_len found.0 + held_count request.hold request.held) (sym well.1)
+        enough = λ four. subst (λ es. empties_below (filled well.0) request.height / 4 ≤ queue_len es + count_held (playable request.hold request.held)) (sym pattern.1)
+            (subst (λ G. empties_below G request.height / 4 ≤ queue_len found.0 + count_held (playable request.hold request.held)) (sym well.1)
             (found.1.enough (subst (λ G. empties_below G request.height % 4 ≡ 0) well.1 four)));
       };
     }

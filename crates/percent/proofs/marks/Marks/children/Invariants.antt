@@ -3,7 +3,7 @@ use Rattle.std.proofs.Common.{All}
 use Rattle.percent.specs.Children.{IsChild}
 use Rattle.percent.specs.Marks.{IsStanding}
 use Rattle.well.specs.Well.{filled}
-use Rattle.percent.proofs.PlaceLemmas.{Entering, held_count}
+use Rattle.percent.proofs.PlaceLemmas.{Entering, count_places_held}
 use Rattle.percent.proofs.marks.Marks.children.Given as goal
 
 abbrev pub invariant-loop-placement : goal.invariant-loop-placement
@@ -13,4 +13,4 @@ invariant-loop-placement g l =
     × All (λ child. IsStanding l.self.known.items l.self.rows child.placement child.standing) l.children.items
 
 abbrev pub decreases-loop-placement : goal.decreases-loop-placement
-decreases-loop-placement g l = held_count l.places l.fn.asked.piece
+decreases-loop-placement g l = count_places_held l.places l.fn.asked.piece
