@@ -21,8 +21,8 @@ use Rattle.moves.specs.declared.key.DropMode.TheVariants.{Soft}
 use Rattle.queue_pattern.specs.declared.pattern.Pattern.{Pattern}
 use Rattle.queue_pattern.specs.Pattern.{elements_of}
 use Rattle.hold_queue.specs.declared.hold.Hold.TheVariants.{Allowed}
-use Rattle.hold_queue.specs.QueueSet.{singles}
-use Rattle.hold_queue.proofs.CallerLemmas.{queues-singles}
+use Rattle.queue_pattern.specs.Grammar.{singles}
+use Rattle.queue_pattern.proofs.CallerLemmas.{queues-singles}
 use Rattle.calling.specs.FirstMove.{BeginsLeast, IsBotProblem}
 
 module _ (problem : Problem) (fit : IsFit problem) where

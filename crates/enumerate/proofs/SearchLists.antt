@@ -8,7 +8,7 @@ use Rattle.srs.specs.declared.placement.Placement.{Placement}
 use Rattle.srs.specs.Order.{sequence_cmp}
 use Rattle.srs.specs.Rising.{is_above, IsRisingListOf}
 use Rattle.srs.proofs.CallerLemmas.{filter-each, filter-false, filter-true, find-false, find-true, filter_above-next, IsRisingListOf-filter, sequence_cmp-total}
-use Rattle.hold_queue.proofs.CallerLemmas.{queues-singles}
+use Rattle.queue_pattern.proofs.CallerLemmas.{queues-singles}
 use Rattle.problem.specs.declared.problem.Problem.{Problem}
 use Rattle.problem.specs.Problem.{IsFit, needed_of}
 use Rattle.problem.specs.Solution.{IsSolution}

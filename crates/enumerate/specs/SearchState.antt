@@ -10,8 +10,9 @@ use Rattle.well.specs.Well.{filled}
 use Rattle.well.specs.Lock.{locked, rows_removed}
 use Rattle.moves.specs.declared.key.DropMode.{DropMode}
 use Rattle.moves.specs.PlaceTest.{is_place}
+use Rattle.queue_pattern.specs.Grammar.{singles}
 use Rattle.queue_pattern.specs.Pattern.{elements_of}
-use Rattle.hold_queue.specs.QueueSet.{QueuesInPlay, queues_permit, singles}
+use Rattle.hold_queue.specs.QueueSet.{QueuesInPlay, queues_permit}
 use Rattle.hold_queue.specs.Supply.{supply_of}
 use Rattle.empty_cells.specs.HasTiling.{has_tiling}
 use Rattle.problem.specs.declared.problem.Problem.{Problem}

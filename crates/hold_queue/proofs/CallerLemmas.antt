@@ -5,4 +5,3 @@ pub use Rattle.hold_queue.proofs.AtHandLemmas.{permits-of_takes, take-cases, tak
 pub use Rattle.hold_queue.proofs.CutLemmas.{takes-is_cut}
 pub use Rattle.hold_queue.proofs.DrawnRests.{Contains-piece}
 pub use Rattle.hold_queue.proofs.HandLemmas.{same-itself, same-shorter}
-pub use Rattle.hold_queue.proofs.SinglesLemmas.{queues-singles}

@@ -14,6 +14,5 @@ mod SupplyLemmas
 mod AtHandLemmas
 mod HandLemmas
 mod CutLemmas
-mod SinglesLemmas
 mod FirstHeld
 pub mod CallerLemmas

@@ -1,9 +1,8 @@
 -- What contracts see of a queue set: its elements, hold rule, the piece held at the start, and the played pieces.
-use Rattle.std.specs.Prelude.{Bool, Option, List, map, take}
+use Rattle.std.specs.Prelude.{Bool, Option, List, take}
 use Rattle.srs.specs.declared.piece.Piece.{Piece}
 use Rattle.queue_pattern.specs.declared.element.Element.{Element}
 use Rattle.queue_pattern.specs.Pattern.{elements_of}
-use Rattle.queue_pattern.specs.Grammar.{set_of}
 use Rattle.queue_pattern.specs.Queues.{queues}
 use Rattle.hold_queue.specs.declared.hold.Hold.{Hold}
 use Rattle.hold_queue.specs.declared.set.QueueSet.{QueueSet}
@@ -14,10 +13,6 @@ pub record QueuesInPlay : Type 0 where
   pub hold : Hold
   pub held : Option Piece
   pub played : List Piece
-
--- the elements of one queue: each piece alone
-abbrev pub singles : List Piece → List Element
-singles queue = map (λ piece. record { set = set_of piece; chosen = 1 }) queue
 
 unfoldable pub queues_in_play : QueueSet → QueuesInPlay
 queues_in_play set =

@@ -1,15 +1,15 @@
 // Laws of the definitions: functions with an empty body whose contract is the law.
-ghost use Rattle.std.specs.Prelude.{◌≡◌, ◌≤◌, ◌↔◌, ◌++◌, ◌+◌, ◌==◌, [], ◌∷◌, ℕ, IsTrue, List, length, take, count_by, Option, Some, None};
+ghost use Rattle.std.specs.Prelude.{◌≡◌, ◌≤◌, ◌↔◌, ◌++◌, ◌+◌, ◌==◌, ◌∷◌, ℕ, IsTrue, List, length, take, count_by, Option, Some, None};
 ghost use Rattle.srs.specs.declared.piece.Piece.{Piece};
 ghost use Rattle.srs.specs.Piece.{piece_code};
 ghost use Rattle.hold_queue.specs.declared.hold.Hold.{Hold};
 ghost use Rattle.hold_queue.specs.declared.hold.Hold.TheVariants.{Allowed};
 ghost use Rattle.hold_queue.specs.AtHand.{at_hand, Takes, taken_from};
 ghost use Rattle.hold_queue.specs.Permits.{Permits, permits};
-ghost use Rattle.hold_queue.specs.QueueSet.{QueuesInPlay, QueuesPermit, queues_permit, singles};
+ghost use Rattle.hold_queue.specs.QueueSet.{QueuesInPlay, QueuesPermit, queues_permit};
 ghost use Rattle.hold_queue.specs.AtHand.{count_held};
 ghost use Rattle.hold_queue.specs.Supply.{supply_of};
-ghost use Rattle.queue_pattern.specs.Queues.{queue_len, queues};
+ghost use Rattle.queue_pattern.specs.Queues.{queue_len};
 
 /// A test decides what a queue permits, and what the queues of a pattern permit.
 pub fn permits_is_decided()
@@ -43,9 +43,4 @@ pub fn permitting_is_taking()
 pub fn later_pieces_are_cut()
     ensures { (hold : Hold) (count : ℕ) (hand pieces : List Piece) → taken_from hold (length pieces) ≤ count →
         Takes hold hand pieces ↔ Takes hold (take count hand) pieces }
-{}
-
-/// The pattern with each piece of one queue as an element stands for this queue and no other.
-pub fn one_queue_is_alone()
-    ensures { (queue : List Piece) → queues (singles queue) ≡ queue ∷ [] }
 {}

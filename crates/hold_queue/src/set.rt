@@ -38,7 +38,8 @@ fn drawn_holding(pattern: &Pattern, held: Option<Piece>, number: u8) -> Option<D
 
 impl QueueSet {
     ghost use Rattle.std.specs.Prelude.{[], ◌∷◌, ◌++◌};
-    ghost use Rattle.hold_queue.specs.QueueSet.{queues_in_play, singles, QueuesPermit, queues_permit};
+    ghost use Rattle.queue_pattern.specs.Grammar.{singles};
+    ghost use Rattle.hold_queue.specs.QueueSet.{queues_in_play, QueuesPermit, queues_permit};
     ghost use Rattle.hold_queue.specs.Supply.{supplies, supply_of};
 
     /// The queues of a pattern, with nothing played.

@@ -5,3 +5,4 @@ pub use Rattle.queue_pattern.proofs.LastElements.{last-fewer, last-some, queues-
 pub use Rattle.queue_pattern.proofs.PatternFacts.{pattern-alone, pattern-short, pattern-some}
 pub use Rattle.queue_pattern.proofs.QueueLemmas.{length-tails, queues-none, queues-tails, tails-more, tails-none}
 pub use Rattle.queue_pattern.proofs.SetLemmas.{filter_twice, same_true}
+pub use Rattle.queue_pattern.proofs.SingleLemmas.{queues-singles}

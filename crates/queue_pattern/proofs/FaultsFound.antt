@@ -7,7 +7,7 @@ use Rattle.queue_pattern.specs.declared.element.Element.{Element}
 use Rattle.queue_pattern.specs.declared.fault.PatternFault.{PatternFault}
 use Rattle.queue_pattern.specs.declared.fault.PatternFault.TheVariants.{Unexpected, RepeatedPiece, TooManyChosen, PatternTooLong, TooManyQueues}
 use Rattle.queue_pattern.specs.Queues.{is_in, pieces_in}
-use Rattle.queue_pattern.specs.Grammar.{Elements, TextPosition, outside, opened, listing, closed, choosing, bracketed, set_of, position_step, outside_step, letter_step, listing_step, listed_step, opened_step, closed_step, choosing_step, end, elements, elements_from}
+use Rattle.queue_pattern.specs.Grammar.{Elements, TextPosition, outside, opened, listing, closed, choosing, bracketed, single, position_step, outside_step, letter_step, listing_step, listed_step, opened_step, closed_step, choosing_step, end, elements, elements_from}
 use Rattle.queue_pattern.specs.Spelling.{SpellsLetters, SpellsSet, all, these, others, SpellsChosen, one, digit, every, letter, chosen, none}
 use Rattle.queue_pattern.specs.Faults.{BeginsSet, IsUnexpectedAt, IsRepeatedAt, IsTooManyAt, IsUnmarked}
 use Rattle.queue_pattern.specs.Faults as fault
@@ -32,7 +32,7 @@ module _ (text : List ℕ) (front : List ℕ) (byte place : ℕ) (bytes : List �
     stands = at ∙ ap length (sym (append-nil front));
   })
   letter_found whole (Some piece) is h =
-      let e : Element = record { set = set_of piece; chosen = 1 } in
+      let e : Element = single piece in
       later outside (record { elements = whole.elements ++ e ∷ []; spelled = elements_more front (byte ∷ []) whole.elements e whole.spelled (letter is) }) (before-err e (rest outside) f h)
 
   outside_found : Whole front → outside_step place byte rest ≡ Err f → Explains text f

@@ -5,13 +5,12 @@ use Rattle.std.proofs.Math.Nat.{dvd-mul_left, dvd-mul_right, eq-one_of_dvd-one}
 use Rattle.std.proofs.lemmas.Bool.{agree_below_at, and_parts}
 use Rattle.srs.specs.declared.piece.Piece.{Piece}
 use Rattle.queue_pattern.specs.declared.element.Element.{Element}
-use Rattle.queue_pattern.specs.Grammar.{set_of}
+use Rattle.queue_pattern.specs.Grammar.{set_of, single, singles}
 use Rattle.queue_pattern.specs.Queues.{pieces_in, choices, queues, falling_factor, queue_count}
 use Rattle.queue_pattern.specs.Sound.{is_sound}
 use Rattle.queue_pattern.proofs.BuilderLemmas.{sound-within, sound-set}
 use Rattle.queue_pattern.proofs.LimitLemmas.{sound-some}
 use Rattle.queue_pattern.proofs.QueueLemmas.{length-queues, queues-none}
-use Rattle.queue_pattern.proofs.SingleLemmas.{single}
 
 -- both factors of a product that is one are one
 left_one : (a b : ℕ) → a * b ≡ 1 → a ≡ 1
@@ -76,9 +75,9 @@ first_of_one element elements queue sound is =
     }
 
 -- sound elements that stand for one queue alone are its pieces, each alone
-pub one_queue-singles : (elements : List Element) (queue : List Piece) → list_all is_sound elements ≡ true → queues elements ≡ queue ∷ [] → elements ≡ map single queue
-one_queue-singles [] queue sound is = ap (λ q. map single q) (same_only [] queue (sym queues-none ∙ is))
+pub one_queue-singles : (elements : List Element) (queue : List Piece) → list_all is_sound elements ≡ true → queues elements ≡ queue ∷ [] → elements ≡ singles queue
+one_queue-singles [] queue sound is = ap singles (same_only [] queue (sym queues-none ∙ is))
 one_queue-singles (element ∷ elements) queue sound is =
     let parts = and_parts (is_sound element) (list_all is_sound elements) sound in
     let first = first_of_one element elements queue parts.0 is in
-    (λ i. first.element_is i ∷ one_queue-singles elements first.rest parts.1 first.rest_is i) ∙ ap (λ q. map single q) (sym first.queue_is)
+    (λ i. first.element_is i ∷ one_queue-singles elements first.rest parts.1 first.rest_is i) ∙ ap singles (sym first.queue_is)

@@ -5,7 +5,7 @@ use Rattle.srs.specs.declared.piece.Piece.{Piece}
 use Rattle.srs.specs.Piece.{piece_with_letter}
 use Rattle.queue_pattern.specs.declared.element.Element.{Element}
 use Rattle.queue_pattern.specs.Queues.{is_in, pieces_in}
-use Rattle.queue_pattern.specs.Grammar.{TextPosition, Elements, outside, opened, listing, closed, choosing, choice, before, bracketed, is_gap, set_of, all_set, position_step, outside_step, letter_step, listing_step, listed_step, opened_step, closed_step, choosing_step, end, elements_from}
+use Rattle.queue_pattern.specs.Grammar.{TextPosition, Elements, outside, opened, listing, closed, choosing, choice, before, bracketed, is_gap, set_of, single, all_set, position_step, outside_step, letter_step, listing_step, listed_step, opened_step, closed_step, choosing_step, end, elements_from}
 use Rattle.queue_pattern.specs.Spelling.{SpellsLetters, SpellsSet, all, these, others, SpellsChosen, one, digit, every, letter, chosen, SpellsElements, none, gap, element}
 
 -- a choice by a test
@@ -121,7 +121,7 @@ outside-goes place byte bytes rest elements ih h = elim (on_if (is_gap byte) _ _
     letters : (o : Option Piece) → piece_with_letter byte ≡ o → letter_step place o rest ≡ Ok elements → SpellsElements (byte ∷ bytes) elements
     letters None is h = cc
     letters (Some piece) is h =
-        let b = before-ok (record { set = set_of piece; chosen = 1 }) (rest outside) elements h in
+        let b = before-ok (single piece) (rest outside) elements h in
         same_elements (sym b.whole) (element (letter is) (ih outside b.later b.rest_is))
 
 listing-goes : (start : ℕ) (except : Bool) (so_far place byte : ℕ) (bytes : List ℕ) (rest : TextPosition → Elements) (elements : List Element)

@@ -9,7 +9,7 @@ use Rattle.srs.specs.declared.piece.Piece.TheVariants.{I}
 use Rattle.srs.specs.Piece.{all_pieces, piece_code}
 use Rattle.queue_pattern.specs.Queues.{is_in, pieces_in, others}
 use Rattle.srs.proofs.CallerLemmas.{each_piece}
-use Rattle.queue_pattern.specs.Grammar.{set_of}
+use Rattle.queue_pattern.specs.Grammar.{set_of, single}
 use Rattle.queue_pattern.specs.Sound.{is_sound}
 use Rattle.std.proofs.lemmas.Grind.{common_steps}
 
@@ -73,6 +73,6 @@ none_left set number i left within past is =
     cc (sym some ∙ is ∙ none)
 
 -- one piece is a sound element
-pub single-sound : (piece : Piece) → is_sound (record { set = set_of piece; chosen = 1 }) ≡ true
+pub single-sound : (piece : Piece) → is_sound (single piece) ≡ true
 unfolding is_sound pieces_in
-single-sound piece = each_piece (λ p. is_sound (record { set = set_of p; chosen = 1 })) refl piece
+single-sound piece = each_piece (λ p. is_sound (single p)) refl piece

@@ -1,5 +1,5 @@
 -- The grammar of pattern texts: their elements, or the first fault from the left.
-use Rattle.std.specs.Prelude.{ℕ, ◌+◌, ◌-◌, ◌^◌, Bool, true, false, not, ◌&&◌, ◌||◌, ◌==◌, nat_lt, nat_le, if◌then◌else◌, List, [], ◌∷◌, length, bit_or, Option, Some, None, Result, Ok, Err, drop}
+use Rattle.std.specs.Prelude.{ℕ, ◌+◌, ◌-◌, ◌^◌, Bool, true, false, not, ◌&&◌, ◌||◌, ◌==◌, nat_lt, nat_le, if◌then◌else◌, List, [], ◌∷◌, length, map, bit_or, Option, Some, None, Result, Ok, Err, drop}
 use Rattle.srs.specs.declared.piece.Piece.{Piece}
 use Rattle.srs.specs.Piece.{piece_code, piece_with_letter}
 use Rattle.queue_pattern.specs.declared.element.Element.{Element}
@@ -14,6 +14,14 @@ set_of piece = 2 ^ (piece_code piece - 1)
 -- the set of all pieces
 abbrev pub all_set : ℕ
 all_set = 127
+
+-- the element that is one piece
+abbrev pub single : Piece → Element
+single piece = record { set = set_of piece; chosen = 1 }
+
+-- the elements of one queue: each piece alone
+abbrev pub singles : List Piece → List Element
+singles queue = map single queue
 
 -- where a byte of a text may stand: outside of elements; right after the bracket at start; within the brackets that
 -- began at start, which list these pieces so far, with `^` before them or without; after the set of an element that
@@ -53,7 +61,7 @@ is_gap byte = byte == 32 || (byte == 9 || byte == 44)
 -- a byte outside of elements, where rest is what the text goes on with from a position after it
 abbrev pub letter_step : ℕ → Option Piece → (TextPosition → Elements) → Elements
 letter_step place None rest = Err (Unexpected place)
-letter_step place (Some piece) rest = before (Ok (record { set = set_of piece; chosen = 1 })) (rest outside)
+letter_step place (Some piece) rest = before (Ok (single piece)) (rest outside)
 
 abbrev pub outside_step : ℕ → ℕ → (TextPosition → Elements) → Elements
 outside_step place byte rest =

@@ -4,7 +4,7 @@ use Rattle.srs.specs.declared.piece.Piece.{Piece}
 use Rattle.srs.specs.Piece.{piece_with_letter}
 use Rattle.queue_pattern.specs.declared.element.Element.{Element}
 use Rattle.queue_pattern.specs.Queues.{is_in, pieces_in}
-use Rattle.queue_pattern.specs.Grammar.{set_of, all_set, is_gap}
+use Rattle.queue_pattern.specs.Grammar.{set_of, single, all_set, is_gap}
 
 -- letters of different pieces, none of which is in a set so far, and that set with them
 abbrev pub SpellsLetters : ℕ → List ℕ → ℕ → Type 0
@@ -30,7 +30,7 @@ pub data SpellsChosen : ℕ → List ℕ → ℕ → Type 0 where
 -- a letter, or a choice of some pieces of a set that is not empty, and no more than it has
 pub data SpellsElement : List ℕ → Element → Type 0 where
   letter : {byte : ℕ} {piece : Piece} → piece_with_letter byte ≡ Some piece
-      → SpellsElement (byte ∷ []) (record { set = set_of piece; chosen = 1 })
+      → SpellsElement (byte ∷ []) (single piece)
   chosen : {front back : List ℕ} {set n : ℕ} → SpellsSet front set → SpellsChosen (length (pieces_in set)) back n
       → 0 < length (pieces_in set) → n ≤ length (pieces_in set)
       → SpellsElement (front ++ back) (record { set = set; chosen = n })

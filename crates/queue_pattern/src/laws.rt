@@ -1,6 +1,7 @@
 // Laws of the definitions: functions with an empty body whose contract is the law.
-ghost use Rattle.std.specs.Prelude.{◌≡◌, ◌≢◌, ◌↔◌, ℕ, ◌<◌, ◌≤◌, List, Ok, Err, All, length, slice_get};
+ghost use Rattle.std.specs.Prelude.{◌≡◌, ◌≢◌, ◌↔◌, [], ◌∷◌, ℕ, ◌<◌, ◌≤◌, List, Ok, Err, All, length, slice_get};
 ghost use Rattle.std.specs.List.Sorted.{IsStrictlySortedBy};
+ghost use Rattle.srs.specs.declared.piece.Piece.{Piece};
 ghost use Rattle.srs.specs.Forms.{LeavesForm};
 ghost use Rattle.queue_pattern.specs.declared.element.Element.{Element};
 ghost use Rattle.queue_pattern.specs.declared.fault.PatternFault.{PatternFault};
@@ -9,6 +10,7 @@ ghost use Rattle.queue_pattern.specs.declared.pattern.Pattern.{Pattern};
 ghost use Rattle.queue_pattern.specs.Faults.{IsPatternFault, IsUnexpectedAt};
 ghost use Rattle.queue_pattern.specs.Form.{HasForm};
 ghost use Rattle.queue_pattern.specs.Grammar;
+ghost use Rattle.queue_pattern.specs.Grammar.{singles};
 ghost use Rattle.queue_pattern.specs.Order.{queue_cmp};
 ghost use Rattle.queue_pattern.specs.Pattern.{elements_of};
 ghost use Rattle.queue_pattern.specs.Queues.{queues, queue_count, queue_len};
@@ -35,6 +37,11 @@ pub fn queues_rise()
 pub fn patterns_are_within_limits()
     ensures some { (pattern : Pattern) → 0 < length (queues (elements_of pattern)) }
     ensures short { (pattern : Pattern) → queue_len (elements_of pattern) ≤ 22 }
+{}
+
+/// The pattern with each piece of one queue as an element stands for this queue and no other.
+pub fn one_queue_is_alone()
+    ensures { (queue : List Piece) → queues (singles queue) ≡ queue ∷ [] }
 {}
 
 /// A text is read as these elements exactly if it spells them.

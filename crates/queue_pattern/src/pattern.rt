@@ -35,9 +35,9 @@ pub struct Pattern {
 }
 
 impl Pattern {
-    ghost use Rattle.std.specs.Prelude.{IfOk, IfErr, Ok, Err, Some, slice_get, List, drop, map};
+    ghost use Rattle.std.specs.Prelude.{IfOk, IfErr, Ok, Err, Some, slice_get, List, drop};
     ghost use Rattle.queue_pattern.specs.Builder.{Holds};
-    ghost use Rattle.queue_pattern.specs.Grammar.{elements, limited, set_of};
+    ghost use Rattle.queue_pattern.specs.Grammar.{elements, limited, singles};
     ghost use Rattle.queue_pattern.specs.Pattern.{elements_of};
     ghost use Rattle.queue_pattern.specs.Queues.{queues};
 
@@ -59,7 +59,7 @@ impl Pattern {
 
     /// The pattern that stands for one queue: each piece is an element.
     pub fn from_queue(queue: &Queue) -> Pattern
-        ensures { elements_of result ≡ map (λ piece. record { set = set_of piece; chosen = 1 }) queue.now.items }
+        ensures { elements_of result ≡ singles queue.now.items }
     {
         let mut builder = Builder::new();
         'pieces: for piece in queue.as_slice() {
