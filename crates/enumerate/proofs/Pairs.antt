@@ -12,7 +12,7 @@ use Rattle.srs.specs.declared.placement.Placement.{Placement}
 use Rattle.srs.specs.Piece.{all_pieces}
 use Rattle.srs.specs.Placements.{placements_of}
 use Rattle.srs.proofs.CallerLemmas.{Contains-here, Contains-there, filter-false, filter-true, placements_of-list}
-use Rattle.moves.specs.PlaceTest.{is_place}
+use Rattle.moves.specs.PlaceTest.{is_place, places_in}
 use Rattle.hold_queue.specs.QueueSet.{QueuesInPlay, queues_permit}
 use Rattle.well.specs.LockLaws.{is_below}
 use Rattle.problem.specs.Solution.{pieces_of}
@@ -97,7 +97,7 @@ place-floods left root prefix n at alive below q played placed = elim (cases_Boo
 kind-floods : (left : ℕ) (root : SearchState) (prefix : List Placement) (n : SearchState) (at : IsAt (suc left) root prefix n) (alive : can_be_tiled (suc left) n ≡ true)
     (below : (prefix : List Placement) (n : SearchState) → IsAt left root prefix n → can_be_played root prefix ≡ true → floods (enter left prefix n) ≡ work_from left root prefix)
     (c : Piece) → floods (tried (enter left) prefix n c) ≡ (if queues_permit root.line (pieces_of prefix ++ c ∷ []) then 1 + sum_by (λ q. work_from left root (prefix ++ q ∷ [])) (placements_of c) else 0)
-unfolding tried floods may_play places_at
+unfolding tried floods may_play places_in
 kind-floods left root prefix n at alive below c = elim (cases_Bool (may_play n.line c)) [
   | inl e ↦
       ap floods (cond-true (may_play n.line c) (Flood ∷ flat_map (entered (enter left) prefix n) (places_at n c)) [] e)

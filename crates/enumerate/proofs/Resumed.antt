@@ -18,7 +18,7 @@ use Rattle.srs.specs.Order.{placement_cmp, sequence_cmp}
 use Rattle.srs.specs.Rising.{is_above}
 use Rattle.srs.specs.Placements.{placements_of}
 use Rattle.srs.proofs.CallerLemmas.{placements_of-list, placement_cmp-antisymmetric, placement_cmp-piece, placement_cmp-total, sequence_cmp-first, each-contained, Contains-filter, Contains-from_filter, Contains-from_flat_map, Contains-here, Contains-there, Contains-cases, Contains-none, filter-each, filter-true, filter-false, rising-first, rising-rest}
-use Rattle.moves.specs.PlaceTest.{is_place}
+use Rattle.moves.specs.PlaceTest.{is_place, places_in}
 use Rattle.moves.proofs.CallerLemmas.{is_place-decides}
 use Rattle.enumerate.proofs.PlaceLaws.{lockable-listed, place-lockable}
 use Rattle.well.specs.LockLaws.{is_below}
@@ -153,13 +153,13 @@ later_code piece c among = ltb-true (piece_code piece) (piece_code c) (each-cont
 
 -- a place of its kind is among the places, and what is among them is a place
 pub placed-there : (n : SearchState) (p : Placement) → is_place n.table n.field n.mode p ≡ true → Contains (places_at n p.piece) p
-unfolding places_at
+unfolding places_in
 placed-there n p placed =
     Contains-filter (is_place n.table n.field n.mode) (placements_of p.piece) p
     (((placements_of-list p.piece).members p).1 (lockable-listed n.field p.piece p (place-lockable n.table n.field n.mode p.piece p refl ((is_place-decides n.table n.field n.mode p).0 placed)))) placed
 
 pub there-placed : (n : SearchState) (p : Placement) → Contains (places_at n p.piece) p → is_place n.table n.field n.mode p ≡ true
-unfolding places_at
+unfolding places_in
 there-placed n p among = (Contains-from_filter (is_place n.table n.field n.mode) (placements_of p.piece) p among).1
 
 module _ (more : Sequences) (n : SearchState) (p : Placement) (given : List Placement) where

@@ -14,7 +14,7 @@ use Rattle.srs.specs.Piece.{all_pieces, piece_code}
 use Rattle.srs.specs.Order.{placement_cmp, sequence_cmp}
 use Rattle.srs.specs.Placements.{IsCanonicalInside, placements_of}
 use Rattle.srs.proofs.CallerLemmas.{Contains-filter, Contains-from_filter, Contains-flat_map, Contains-from_flat_map, Contains-map, Contains-from_map, Contains-none, rising-cons, rising-flat_map, rising-map, rising-none, placement_cmp-piece, sequence_cmp-append, sequence_cmp-first, placements_of-list}
-use Rattle.moves.specs.PlaceTest.{is_place}
+use Rattle.moves.specs.PlaceTest.{is_place, places_in}
 use Rattle.well.specs.LockLaws.{is_below}
 use Rattle.enumerate.specs.SearchState.{SearchState, after_of, may_play, places_at, is_live}
 
@@ -59,7 +59,7 @@ pub record InKind (S : Sequences) (n : SearchState) (piece : Piece) (s : List Pl
   pub in_place : InPlace S n first s
 
 pub in_kind : (S : Sequences) (n : SearchState) (piece : Piece) (s : List Placement) → Contains (of_kind S n piece) s → InKind S n piece s
-unfolding of_kind places_at
+unfolding of_kind places_in
 in_kind S n piece s =
     cond_both (may_play n.line piece) (flat_map (of_place S n) (places_at n piece)) [] (λ l. Contains l s → InKind S n piece s)
     (λ played among.
@@ -69,7 +69,7 @@ in_kind S n piece s =
     (λ _ among. absurd (Contains-none s among))
 
 pub to_kind : (S : Sequences) (n : SearchState) (q : Placement) (s : List Placement) → may_play n.line q.piece ≡ true → IsCanonicalInside q.piece q → is_place n.table n.field n.mode q ≡ true → Contains (of_place S n q) s → Contains (of_kind S n q.piece) s
-unfolding of_kind places_at
+unfolding of_kind places_in
 to_kind S n q s played listed is_one among =
     search (rules, (Contains-flat_map (of_place S n) (places_at n q.piece) q s (Contains-filter (is_place n.table n.field n.mode) (placements_of q.piece) q (((placements_of-list q.piece).members q).1 listed) is_one) among))
 
@@ -79,7 +79,7 @@ abbrev pub Rises : List (List Placement) → Type 0
 Rises = IsStrictlySortedBy sequence_cmp
 
 pub places_at-rising : (n : SearchState) (piece : Piece) → IsStrictlySortedBy placement_cmp (places_at n piece)
-unfolding places_at
+unfolding places_in
 places_at-rising n piece = IsStrictlySortedBy-filter placement_cmp (is_place n.table n.field n.mode) (placements_of piece) (placements_of-list piece).rising
 
 pub prefixed-rising : (q : Placement) (l : List (List Placement)) → Rises l → Rises (map (λ s. q ∷ s) l)

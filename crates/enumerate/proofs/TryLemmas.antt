@@ -16,7 +16,7 @@ use Rattle.well.specs.Well.{filled}
 use Rattle.well.specs.Lock.{locked, rows_removed}
 use Rattle.moves.specs.declared.key.DropMode.{DropMode}
 use Rattle.moves.specs.Place.{IsPlace}
-use Rattle.moves.specs.PlaceTest.{is_place}
+use Rattle.moves.specs.PlaceTest.{is_place, places_in}
 use Rattle.place_sets.specs.declared.low_held.LowPlaces.{LowPlaces}
 use Rattle.place_sets.specs.LowPlaces.{holds, piece_of}
 use Rattle.hold_queue.specs.QueueSet.{QueuesInPlay, QueuesPermit, queues_in_play, queues_permit}
@@ -56,7 +56,7 @@ HeldBelow rows places = (q : Placement) → holds places q ≡ true → is_below
 module _ (table : Table) (F : Field) (mode : DropMode) (piece : Piece) (places : LowPlaces) (kind : piece_of places ≡ piece) (rows : ℕ)
     (held : (q : Placement) → (holds places q ≡ true) ↔ ((q.piece ≡ piece) × IsPlace table F mode q × (is_below rows q ≡ true))) where
   pub flooded-places : (n : SearchState) → n.table ≡ table → n.mode ≡ mode → n.field ≡ F → places_left (Some places) None ≡ filter (is_below rows) (places_at n piece)
-  unfolding places_left places_at
+  unfolding places_left places_in
   flooded-places n t m f =
       ap (λ p. filter (λ q. holds places q && true) (placements_of p)) kind
       ∙ filter-same (λ q. holds places q && true) (λ q. is_place table F mode q && is_below rows q) (placements_of piece) each

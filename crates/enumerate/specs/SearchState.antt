@@ -1,15 +1,14 @@
 -- States of a search: the rules, a field, the rows that are left, and the queues with the pieces that were played.
-use Rattle.std.specs.Prelude.{ℕ, suc, ◌-◌, Bool, Option, Some, None, List, [], ◌∷◌, ◌++◌, filter}
+use Rattle.std.specs.Prelude.{ℕ, suc, ◌-◌, Bool, Option, Some, None, List, [], ◌∷◌, ◌++◌}
 use Rattle.lane_board.specs.Field.{Field}
 use Rattle.srs.specs.declared.piece.Piece.{Piece}
 use Rattle.srs.specs.declared.placement.Placement.{Placement}
 use Rattle.srs.specs.Kick.{Table}
 use Rattle.srs.specs.Rules.{table_of}
-use Rattle.srs.specs.Placements.{placements_of}
 use Rattle.well.specs.Well.{filled}
 use Rattle.well.specs.Lock.{locked, rows_removed}
 use Rattle.moves.specs.declared.key.DropMode.{DropMode}
-use Rattle.moves.specs.PlaceTest.{is_place}
+use Rattle.moves.specs.PlaceTest.{places_in}
 use Rattle.queue_pattern.specs.Grammar.{singles}
 use Rattle.queue_pattern.specs.Pattern.{elements_of}
 use Rattle.hold_queue.specs.QueueSet.{QueuesInPlay, queues_permit}
@@ -42,9 +41,9 @@ after_of n q = record {
 unfoldable pub may_play : QueuesInPlay → Piece → Bool
 may_play line piece = queues_permit line (line.played ++ piece ∷ [])
 
--- the placements of a piece that legal keys reach, in order
-unfoldable pub places_at : SearchState → Piece → List Placement
-places_at n piece = filter (is_place n.table n.field n.mode) (placements_of piece)
+-- the places of a piece in a state
+abbrev pub places_at : SearchState → Piece → List Placement
+places_at n piece = places_in n.table n.mode n.field piece
 
 -- the empty cells of the rows left have a tiling by what may still be played, with so many placements to come
 unfoldable pub can_be_tiled : ℕ → SearchState → Bool

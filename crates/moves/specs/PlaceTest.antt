@@ -1,12 +1,14 @@
--- The tests of `LeadsToRest` and `IsPlace`.
-use Rattle.std.specs.Prelude.{ℕ, Bool, false, ◌&&◌, List}
+-- The tests of `LeadsToRest` and `IsPlace`, and the places of a piece.
+use Rattle.std.specs.Prelude.{ℕ, Bool, false, ◌&&◌, List, filter}
 use Rattle.std.specs.List.{list_all}
 use Rattle.std.specs.Option.{option_map_or}
 use Rattle.lane_board.specs.Field.{Field}
+use Rattle.srs.specs.declared.piece.Piece.{Piece}
 use Rattle.srs.specs.declared.placement.Placement.{Placement}
 use Rattle.srs.specs.Canonical.{is_canonical}
 use Rattle.srs.specs.Cells.{cells_of}
 use Rattle.srs.specs.Kick.{Table}
+use Rattle.srs.specs.Placements.{placements_of}
 use Rattle.srs.specs.SameCells.{is_same_cells}
 use Rattle.moves.specs.declared.key.Key.{Key}
 use Rattle.moves.specs.declared.key.DropMode.{DropMode}
@@ -37,3 +39,7 @@ is_place table F mode placement =
     is_canonical placement
     && option_map_or (some_keys_lead (step_of table F) (allows mode) (comes_to_rest F placement) most_states)
     (spawned F placement.piece) false
+
+-- the placements of a piece that legal keys reach, in order
+unfoldable pub places_in : Table → DropMode → Field → Piece → List Placement
+places_in table mode F piece = filter (is_place table F mode) (placements_of piece)

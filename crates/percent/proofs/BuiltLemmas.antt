@@ -22,7 +22,7 @@ use Rattle.well.specs.Lock.{locked, rows_removed, together, with_cells}
 use Rattle.well.specs.LockLaws.{LiesBelow, is_below}
 use Rattle.moves.specs.declared.key.DropMode.{DropMode}
 use Rattle.moves.specs.Place.{IsPlace}
-use Rattle.moves.specs.PlaceTest.{is_place}
+use Rattle.moves.specs.PlaceTest.{is_place, places_in}
 use Rattle.moves.proofs.CallerLemmas.{is_place-decides as place-decides, place-free}
 use Rattle.hold_queue.specs.declared.hold.Hold.{Hold}
 use Rattle.problem.proofs.CallerLemmas.{IsLow, locked-low}
@@ -346,7 +346,7 @@ place-built game drops F height left hand rest rows E q hard few low opens small
 pub good-built : (game : Game) (drops : Bool) (F : Field) (height left hand : ℕ) (rows : List ℕ) (E : Field) → (drops ≡ true → IsHardSrs game)
     → height ≤ 8 → IsLow F height → HasOpenRows F height → IsSmall 8 E → IsSpread F height rows E
     → is_good game F height left hand ≡ true → IsBuiltBy E drops game.hold left hand
-unfolding is_good reached_places
+unfolding is_good places_in
 good-built game drops F height zero hand rows E hard few low opens small spread good =
     nothing-built F E rows drops game.hold height hand (eqb-true height 0 good) spread
 good-built game drops F height (suc left) hand rows E hard few low opens small spread good =

@@ -14,7 +14,7 @@ use Rattle.srs.proofs.CallerLemmas.{placements_of-list, Contains-filter, Contain
 use Rattle.well.specs.Well.{filled}
 use Rattle.well.specs.Lock.{locked, rows_removed}
 use Rattle.well.specs.LockLaws.{is_below}
-use Rattle.moves.specs.PlaceTest.{is_place}
+use Rattle.moves.specs.PlaceTest.{is_place, places_in}
 use Rattle.hold_queue.specs.declared.hold.Hold.{Hold}
 use Rattle.hold_queue.specs.declared.hold.Hold.TheVariants.{Allowed, Avoided}
 use Rattle.hold_queue.specs.AtHand.{at_hand, Take, Takes, taken_from}
@@ -44,7 +44,7 @@ Played game F rows left hand =
     (sequence : List Placement) × (length sequence ≡ left) × Plays (table_of game.rules) game.drop_mode F rows sequence × Takes game.hold hand (pieces_of sequence)
 
 place-listed : (game : Game) (F : Field) (q : Placement) → is_place (table_of game.rules) F game.drop_mode q ≡ true → Contains (reached_places game F q.piece) q
-unfolding reached_places
+unfolding places_in
 place-listed game F q place =
     let is = (place-decides (table_of game.rules) F game.drop_mode q).0 place in
     let listed : IsCanonicalInside q.piece q = record { kind = refl; canonical = is.canonical; inside = free_inside F q (place-free (table_of game.rules) F game.drop_mode q is) } in
@@ -66,7 +66,7 @@ good-played game F rows hand (q ∷ s) plays taken =
     (takes-from game.hold hand q.piece taken.0 (λ rest. list_any (λ q. is_below rows q && is_good game (locked F q) (rows - rows_removed F q) (length s) rest) (reached_places game F q.piece)) taken.1 after)
 
 pub played-good : (game : Game) (F : Field) (rows left : ℕ) (hand : List Piece) → IsLow F rows → is_good game F rows left (number_of hand) ≡ true → Played game F rows left hand
-unfolding is_good reached_places
+unfolding is_good places_in
 played-good game F rows zero hand low good =
     let none : rows ≡ 0 = eqb-true rows 0 good in
     ([], refl, (none, λ x y. low.none x y (omega (arith, none))), tt)
@@ -127,7 +127,7 @@ PlaysSome game F rows = (sequence : List Placement) × Plays (table_of game.rule
 
 -- whatever the hand is, some sequence plays
 good-plays : (game : Game) (F : Field) (rows left hand : ℕ) → IsLow F rows → is_good game F rows left hand ≡ true → PlaysSome game F rows
-unfolding is_good reached_places
+unfolding is_good places_in
 good-plays game F rows zero hand low good =
     let none : rows ≡ 0 = eqb-true rows 0 good in
     ([], (none, λ x y. low.none x y (omega (arith, none))))

@@ -24,7 +24,7 @@ use Rattle.well.specs.Free.{is_free}
 use Rattle.well.specs.Lock.{locked, rows_removed}
 use Rattle.well.specs.LockLaws.{is_below}
 use Rattle.moves.specs.Place.{IsPlace}
-use Rattle.moves.specs.PlaceTest.{is_place}
+use Rattle.moves.specs.PlaceTest.{is_place, places_in}
 use Rattle.place_sets.specs.declared.low_held.LowPlaces.{LowPlaces}
 use Rattle.place_sets.specs.LowPlaces.{holds}
 use Rattle.well.proofs.CallerLemmas.{free_inside}
@@ -50,7 +50,7 @@ listed : (game : Game) (F : Field) (rows : ℕ) (piece : Piece) (q : Placement) 
 listed game F rows piece q is = ((placements_of-list piece).members q).1 (record { kind = is.kind; canonical = is.place.canonical; inside = free_inside F q (low-free game F rows piece q is) })
 
 reached : (game : Game) (F : Field) (rows : ℕ) (piece : Piece) (q : Placement) → IsLowPlace game F rows piece q → Contains (reached_places game F piece) q
-unfolding reached_places
+unfolding places_in
 reached game F rows piece q is =
     Contains-filter (is_place (table_of game.rules) F game.drop_mode) (placements_of piece) q (listed game F rows piece q is) ((place-decides (table_of game.rules) F game.drop_mode q).1 is.place)
 
@@ -181,7 +181,7 @@ module _ (game : Game) (F : Field) (rows : ℕ) (piece : Piece) (left : ℕ) (ha
 pub enter-ends : (game : Game) (F : Field) (rows : ℕ) (piece : Piece) (left : ℕ) (hands : HandSet) (children : List Child) (places : LowPlaces) → Entering game F rows piece left hands children places
     → IsNextAbove placement_cmp (λ p. IsTrue (holds places p)) None None
     → (hand : ℕ) → has hands hand ≡ true → is_good_at game children left hand ≡ is_good_after game F rows piece left hand
-unfolding is_good_after reached_places
+unfolding is_good_after places_in
 enter-ends game F rows piece left hands children places state none hand here = same_from_both _ _ (state.only hand) (λ good. all (some_passes (λ q. is_below rows q && is_good_with game F rows left hand q) (reached_places game F piece) good))
   where
     low : (q : Placement) → Contains (reached_places game F piece) q → is_below rows q ≡ true → IsLowPlace game F rows piece q

@@ -11,7 +11,7 @@ use Rattle.srs.specs.Placements.{placements_of}
 use Rattle.srs.specs.Rules.{table_of}
 use Rattle.well.specs.Lock.{locked, rows_removed}
 use Rattle.well.specs.LockLaws.{is_below}
-use Rattle.moves.specs.PlaceTest.{is_place}
+use Rattle.moves.specs.PlaceTest.{is_place, places_in}
 use Rattle.hold_queue.specs.declared.hold.Hold.{Hold}
 use Rattle.prune.specs.Tiling.{Supply, Tiling}
 use Rattle.prune.specs.Laws.{kinds_placed, with_one}
@@ -87,7 +87,7 @@ unfolding kinds_placed
 nothing-tiled F supply low = more_pieces F 0 (kinds_placed []) supply (λ piece. omega arith) (cleared_is_tiled F 0 [] low.within (record { none = low.none }) refl)
 
 pub good-tiled : (game : Game) (F : Field) (rows left hand count : ℕ) → IsLow F rows → suc left ≤ count → is_good game F rows left hand ≡ true → Tiling F rows (supply_at count hand)
-unfolding is_good reached_places
+unfolding is_good places_in
 good-tiled game F rows zero hand count low enough good =
     let none : rows ≡ 0 = eqb-true rows 0 good in
     subst (λ r. Tiling F r (supply_at count hand)) (sym none) (nothing-tiled F (supply_at count hand) (subst (λ r. IsLow F r) none low))

@@ -1,24 +1,23 @@
 -- Good hands, piece by piece: whether some way to take a piece and place it leaves a good hand.
-use Rattle.std.specs.Prelude.{ℕ, zero, suc, ◌-◌, Bool, ◌&&◌, ◌==◌, List, filter}
+use Rattle.std.specs.Prelude.{ℕ, zero, suc, ◌-◌, Bool, ◌&&◌, ◌==◌, List}
 use Rattle.std.specs.List.{list_any}
 use Rattle.lane_board.specs.Field.{Field}
 use Rattle.srs.specs.declared.piece.Piece.{Piece}
 use Rattle.srs.specs.declared.placement.Placement.{Placement}
 use Rattle.srs.specs.Piece.{all_pieces, piece_code}
-use Rattle.srs.specs.Placements.{placements_of}
 use Rattle.srs.specs.Rules.{table_of}
 use Rattle.well.specs.Well.{filled}
 use Rattle.well.specs.Lock.{locked, rows_removed}
 use Rattle.well.specs.LockLaws.{is_below}
-use Rattle.moves.specs.PlaceTest.{is_place}
+use Rattle.moves.specs.PlaceTest.{places_in}
 use Rattle.problem.specs.declared.problem.Problem.{Problem}
 use Rattle.problem.specs.Problem.{needed_of}
 use Rattle.percent.specs.declared.game.Game.{Game}
 use Rattle.hands.specs.Hands.{hand_of, takes}
 
--- the placements of a piece that legal keys reach, in order
-unfoldable pub reached_places : Game → Field → Piece → List Placement
-reached_places game F piece = filter (is_place (table_of game.rules) F game.drop_mode) (placements_of piece)
+-- the places of a piece by the rules of a game
+abbrev pub reached_places : Game → Field → Piece → List Placement
+reached_places game F piece = places_in (table_of game.rules) game.drop_mode F piece
 
 -- with so many rows left and so many placements to come
 unfoldable pub is_good : Game → Field → ℕ → ℕ → ℕ → Bool
