@@ -12,7 +12,7 @@ use std::cmp::Reverse;
 /// How many hands want each code.
 type Wanted = [u32; 8];
 
-/// So many hands more that have these last pieces. With hold, a hand wants its first and its second piece.
+/// So many hands more that begin with these pieces. With hold, a hand wants its first and its second piece.
 fn want(wanted: &mut Wanted, hold: Hold, pieces: u64, count: u32) {
     let first = (pieces % 8) as usize;
     wanted[first] = wanted[first].wrapping_add(count);
@@ -22,7 +22,7 @@ fn want(wanted: &mut Wanted, hold: Hold, pieces: u64, count: u32) {
     }
 }
 
-/// The hands of a block more. Where the key has two pieces, all of them want the same.
+/// The hands of a block more. Where the key has two pieces or more, all of them want the same.
 fn want_all(wanted: &mut Wanted, hold: Hold, block: Block) {
     if block.key >= 64 {
         want(wanted, hold, block.key, block.endings.count_ones());
@@ -47,7 +47,7 @@ fn count_of(wanted: &Wanted, piece: Piece) -> u32 {
 }
 
 impl HandSet {
-    /// All kinds, those that most hands want first.
+    /// All kinds, those that most hands want first. No clause says in which order.
     pub fn wanted_first(&self, hold: Hold) -> [Piece; 7]
         ensures { IsPermutation all_pieces result }
     {

@@ -1,4 +1,4 @@
--- Marks: all tilings of some cells by some pieces, and their indexes.
+-- Marks: ordered tilings of some cells by some pieces, and their indexes.
 use Rattle.std.specs.Prelude.{◌≡◌, ℕ, ◌+◌, ◌<◌, false, List, Option, Some, None, IfSome, length, slice_get, slice_index, slice_index_or}
 use Rattle.srs.specs.declared.piece.Piece.{Piece}
 use Rattle.lane_board.specs.Field.{Field}

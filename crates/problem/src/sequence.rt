@@ -2,5 +2,5 @@
 use arrayvec::ArrayVec;
 use srs::Placement;
 
-/// The placements of a solution, first placement first.
+/// At most 22 placements, first placement first.
 pub type Sequence = ArrayVec<Placement, 22>;

@@ -3,7 +3,7 @@ use Rattle.std.specs.Prelude.{ℕ, List, vec_capacity}
 use Rattle.fumen_pages.specs.declared.page.Page.{Page}
 use Rattle.report.specs.declared.fumen_line.FumenWriter.{FumenWriter}
 
--- the pages of the line that it wrote last
+-- the pages that it holds
 abbrev pub pages_of_line : FumenWriter → List Page
 pages_of_line writer = writer.pages.items
 
