@@ -1,15 +1,10 @@
 -- Pairs of pieces, one bit each.
-use Rattle.std.proofs.Common.{ℕ, ◌≡◌, ◌+◌, ◌-◌, ◌*◌, ◌/◌, ◌%◌, ◌^◌, ◌<◌, ◌≤◌, Bool, true, false, bit_and, nat_le, nat_lt, ◌&&◌, ◌||◌, ◌==◌, ap, ◌∙◌, inl, inr, arith, rules}
-use Rattle.std.proofs.lemmas.Bool.{cases_eq, cases_lt, eq-eqb, ne_eqb}
+use Rattle.std.proofs.Common.{ℕ, ◌≡◌, ◌+◌, ◌-◌, ◌*◌, ◌/◌, ◌%◌, ◌^◌, ◌<◌, ◌≤◌, Bool, true, false, bit_and, nat_le, nat_lt, ◌&&◌, ◌||◌, ◌==◌, ap, ◌∙◌, inl, inr, arith}
+use Rattle.std.proofs.lemmas.Bool.{cases_eq, cases_lt}
 use Rattle.std.proofs.lemmas.Bool.Decides.{nat_tests}
 use Rattle.std.proofs.lemmas.Nat.{and_mask, mod_below, one_shl, shl_whole}
-use Rattle.std.proofs.lemmas.Nat.Bits.{bit_at-pow_same, bit_at-pow_other}
 use Rattle.lane_board.specs.Lanes.{has_bit}
-use Rattle.lane_board.proofs.CallerLemmas.{has_bit-low, has_bit-past, has_bit-shifted_high, has_bit-shifted_low, has_bit-shifted_right, has_bit-zero}
-
-has_bit-pow : (x k : ℕ) → has_bit (2 ^ x) k ≡ (k == x)
-unfolding has_bit
-has_bit-pow x k = search (rules, cases_eq, bit_at-pow_same, eq-eqb, bit_at-pow_other, ne_eqb)
+use Rattle.lane_board.proofs.CallerLemmas.{has_bit-low, has_bit-past, has_bit-pow, has_bit-shifted_high, has_bit-shifted_low, has_bit-shifted_right, has_bit-zero}
 
 -- one bit alone
 pub has_bit-one : (x k : ℕ) → x < 64 → has_bit (1 * 2 ^ x % 2 ^ 64) k ≡ (k == x)

@@ -42,7 +42,8 @@ pub same_from_columns : (a b : ℕ) → ((k : ℕ) → has_bit a k ≡ has_bit b
 unfolding has_bit
 same_from_columns a b same = search (rules, (same_from_bits a b), (bit_at-lt a), (bit_at-lt b))
 
-has_bit-pow : (x k : ℕ) → has_bit (2 ^ x) k ≡ (k == x)
+-- one column alone
+pub has_bit-pow : (x k : ℕ) → has_bit (2 ^ x) k ≡ (k == x)
 unfolding has_bit
 has_bit-pow x k = search (rules, cases_eq, bit_at-pow_same, eq-eqb, bit_at-pow_other, ne_eqb)
 

@@ -1,7 +1,6 @@
 -- A good hand has a tiling whose pieces are put in place in an order that the hand permits, each fitting when its turn comes.
 use Rattle.std.proofs.Common.{◌≡◌, ℕ, zero, suc, ◌+◌, ◌-◌, ◌<◌, ◌≤◌, Bool, true, false, cond, not, ◌&&◌, nat_lt, List, [], ◌∷◌, length, get_or, map, pos, negsuc, nat_abs, refl, sym, ap, subst, ◌∙◌, inl, inr, arith}
 use Rattle.std.proofs.Common.{set as list_set}
-use Rattle.std.proofs.Math.Path.{fun_ext}
 use Rattle.std.specs.List.{list_any}
 use Rattle.std.specs.Prelude.{Contains, None, Some, find}
 use Rattle.std.proofs.lemmas.Bool.{and_from, and_parts, and_right, both_ways, cases_Bool, cases_eq, cases_order, cond-false, eqb-true, false≢true, false_from_ne_true, ltb-true, not-true, not_from_false, not_from_true, true_from_ne_false}
@@ -32,9 +31,9 @@ use Rattle.prune.proofs.CallerLemmas.{TilingOf, one_part_more}
 use Rattle.empty_cells.specs.Empties.{all_but}
 use Rattle.empty_cells.specs.Spans.{HasNoCell}
 use Rattle.empty_cells.specs.SentCells.{sent_cells, sent_up}
-use Rattle.empty_cells.proofs.CallerLemmas.{IsSmall, empty_within, not_without, sent_from}
+use Rattle.empty_cells.proofs.CallerLemmas.{IsSmall, empty_within, sent_from}
 use Rattle.tiled_pieces.specs.TilingLists.{LaidPiece, laid_part}
-use Rattle.tiled_pieces.proofs.CallerLemmas.{LiesIn, left_by_part}
+use Rattle.tiled_pieces.proofs.CallerLemmas.{LiesIn, left_is}
 use Rattle.percent.specs.declared.game.Game.{Game}
 use Rattle.tiled_pieces.specs.Built.{AreBuilt, Fits, IsGone, Rests}
 use Rattle.tiled_pieces.specs.Served.{left_by}
@@ -278,10 +277,6 @@ nothing-built F E rows drops hold height hand none spread = record {
     not_empty (pos x, negsuc y) = refl
     not_empty (negsuc x, pos y) = refl
     not_empty (negsuc x, negsuc y) = refl
-
-left_is : (E : Field) (part : Part) → all_but (left_by_part E part) ≡ with_cells (all_but E) part.cells
-unfolding all_but difference with_cells
-left_is E part = sym (fun_ext (λ a. fun_ext (λ b. not_without (E a b) (is_among part.cells (pos a, pos b)))))
 
 -- a hand builds a set by a tiling that begins with a part
 pub record BuiltFirst (E : Field) (drops : Bool) (hold : Hold) (left hand : ℕ) (part : Part) (parts : List Part) : Type 0 where

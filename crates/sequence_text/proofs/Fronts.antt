@@ -9,8 +9,8 @@ use Rattle.sequence_text.specs.declared.reading.Due.TheVariants as due
 use Rattle.sequence_text.specs.declared.reading.Reading.{Reading}
 use Rattle.sequence_text.specs.Reading.{read_from, reading, step, may_end, unread, sequence_in}
 use Rattle.sequence_text.specs.Form.{Spells, IsLongestFront, IsRefusedAt}
-use Rattle.sequence_text.proofs.SpelledText.{read-from_spelled}
-use Rattle.sequence_text.proofs.ReadText.{spelled_from_read}
+use Rattle.sequence_text.proofs.SpelledText.{spelled_is_read}
+use Rattle.sequence_text.proofs.ReadText.{read_is_spelled}
 
 abbrev pub Answer : Type 0
 Answer = Result (List Placement) ℕ
@@ -158,8 +158,8 @@ longest_front zero (byte ∷ bytes) place refused =
     let same : 0 ≡ place = same_place 0 place refused in
     subst (IsLongestFront zero (byte ∷ bytes)) same (record {
       within = omega arith;
-      begins = record { rest = []; sequence = []; whole = spelled_from_read zero [] [] refl };
-      longest = λ longer above within front. no_longer longer above front.rest front.sequence (read-from_spelled zero _ front.sequence front.whole);
+      begins = record { rest = []; sequence = []; whole = read_is_spelled zero [] [] refl };
+      longest = λ longer above within front. no_longer longer above front.rest front.sequence (spelled_is_read zero _ front.sequence front.whole);
     })
   where
     no_longer : (longer : ℕ) → 0 < longer → (rest : List ℕ) (sequence : List Placement) → sequence_in zero (take longer (byte ∷ bytes) ++ rest) ≡ Ok sequence → ⊥
@@ -171,13 +171,13 @@ longest_front (suc left) text place refused =
     let all : place - 0 ≡ place = omega arith in
     record {
       within = omega arith;
-      begins = record { rest = f.rest; sequence = f.sequence; whole = spelled_from_read (suc left) (take place text ++ f.rest) f.sequence (rw all at f.whole) };
-      longest = λ longer above within front. both_ways (f.longer longer (omega arith) within front.rest) (read-from_spelled (suc left) _ front.sequence front.whole);
+      begins = record { rest = f.rest; sequence = f.sequence; whole = read_is_spelled (suc left) (take place text ++ f.rest) f.sequence (rw all at f.whole) };
+      longest = λ longer above within front. both_ways (f.longer longer (omega arith) within front.rest) (spelled_is_read (suc left) _ front.sequence front.whole);
     }
 
 bad-from_refused : (needed : ℕ) (text : List ℕ) (place : ℕ) → sequence_in needed text ≡ Err place → IsRefusedAt needed text place
 bad-from_refused needed text place refused = record {
-  unspelled = λ sequence spelled. both_ways refused (read-from_spelled needed text sequence spelled);
+  unspelled = λ sequence spelled. both_ways refused (spelled_is_read needed text sequence spelled);
   longest_front = longest_front needed text place refused;
 }
 
@@ -188,18 +188,18 @@ refused-from_bad : (needed : ℕ) (text : List ℕ) (place : ℕ) → IsRefusedA
 refused-from_bad needed text place bad = by (sequence_in needed text) refl
   where
     by : (answer : Answer) → sequence_in needed text ≡ answer → sequence_in needed text ≡ Err place
-    by (Ok sequence) is = absurd (bad.unspelled sequence (spelled_from_read needed text sequence is))
+    by (Ok sequence) is = absurd (bad.unspelled sequence (read_is_spelled needed text sequence is))
     by (Err refused) is = is ∙ ap (λ p. Err p) (one_longest needed text refused place (longest_front needed text refused is) bad.longest_front)
 
 -- what a text is read as, it spells; where it is refused, it spells nothing
 pub read_as_spelled : (needed : ℕ) (text : List ℕ) (sequence : List Placement) → (sequence_in needed text ≡ Ok sequence) ↔ Spells needed text sequence
-read_as_spelled needed text sequence = (spelled_from_read needed text sequence, read-from_spelled needed text sequence)
+read_as_spelled needed text sequence = (read_is_spelled needed text sequence, spelled_is_read needed text sequence)
 
 pub refused_where_bad : (needed : ℕ) (text : List ℕ) (place : ℕ) → (sequence_in needed text ≡ Err place) ↔ IsRefusedAt needed text place
 refused_where_bad needed text place = (bad-from_refused needed text place, refused-from_bad needed text place)
 
-pub one_spelled : (needed : ℕ) (text : List ℕ) (one other : List Placement) → Spells needed text one → Spells needed text other → one ≡ other
-one_spelled needed text one other first second =
-    let a = read-from_spelled needed text one first in
-    let b = read-from_spelled needed text other second in
+pub one_sequence : (needed : ℕ) (text : List ℕ) (one other : List Placement) → Spells needed text one → Spells needed text other → one ≡ other
+one_sequence needed text one other first second =
+    let a = spelled_is_read needed text one first in
+    let b = spelled_is_read needed text other second in
     cc

@@ -206,9 +206,9 @@ spelled_from (byte ∷ bytes) read left now front place sequence so_far gives = 
 ]
 
 -- what a text is read as, it spells
-pub spelled_from_read : (needed : ℕ) (text : List ℕ) (sequence : List Placement) → sequence_in needed text ≡ Ok sequence → Spells needed text sequence
-spelled_from_read zero [] sequence gives = let same = ok_is [] sequence gives in subst (Spells zero []) same (record { spelled = none; count = refl })
-spelled_from_read zero (byte ∷ bytes) sequence gives = absurd (no_answer 0 sequence gives)
-spelled_from_read (suc left) text sequence gives =
+pub read_is_spelled : (needed : ℕ) (text : List ℕ) (sequence : List Placement) → sequence_in needed text ≡ Ok sequence → Spells needed text sequence
+read_is_spelled zero [] sequence gives = let same = ok_is [] sequence gives in subst (Spells zero []) same (record { spelled = none; count = refl })
+read_is_spelled zero (byte ∷ bytes) sequence gives = absurd (no_answer 0 sequence gives)
+read_is_spelled (suc left) text sequence gives =
     let all = spelled_from text [] left unread [] 0 sequence refl gives in
     record { spelled = subst (SpellsSequence text) (sym all.whole) all.spelled; count = ap length all.whole ∙ all.count }

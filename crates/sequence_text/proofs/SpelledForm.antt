@@ -33,5 +33,5 @@ items_spelled (item ∷ []) inside = search (rules, append-nil, last, item_spell
 items_spelled (first ∷ second ∷ rest) inside =
     more (item_spelled first (first_inside first (second ∷ rest) inside)) (items_spelled (second ∷ rest) (rest_inside first (second ∷ rest) inside))
 
-pub form_spelled : (keyed : List Keyed) → All InWell keyed → Spells (length keyed) (sequence_form keyed) (map (λ item. item.0) keyed)
-form_spelled keyed inside = record { spelled = items_spelled keyed inside; count = length-map keyed (λ item. item.0) }
+pub written_is_spelled : (keyed : List Keyed) → All InWell keyed → Spells (length keyed) (sequence_form keyed) (map (λ item. item.0) keyed)
+written_is_spelled keyed inside = record { spelled = items_spelled keyed inside; count = length-map keyed (λ item. item.0) }

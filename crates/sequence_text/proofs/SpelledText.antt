@@ -134,8 +134,8 @@ sequence_read text sequence (more {front = front} {back = back} {first = first} 
     placement_read read left (read ++ first ∷ second ∷ rest) front (32 ∷ back) first spelled ends
 
 -- what a text spells, it is read as
-pub read-from_spelled : (needed : ℕ) (text : List ℕ) (sequence : List Placement) → Spells needed text sequence → sequence_in needed text ≡ Ok sequence
-read-from_spelled needed text sequence spelled = by_count needed text sequence spelled.spelled spelled.count
+pub spelled_is_read : (needed : ℕ) (text : List ℕ) (sequence : List Placement) → Spells needed text sequence → sequence_in needed text ≡ Ok sequence
+spelled_is_read needed text sequence spelled = by_count needed text sequence spelled.spelled spelled.count
   where
     by_count : (needed : ℕ) (text : List ℕ) (sequence : List Placement) → SpellsSequence text sequence → length sequence ≡ needed → sequence_in needed text ≡ Ok sequence
     by_count zero text sequence none count = refl

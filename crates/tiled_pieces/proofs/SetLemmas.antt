@@ -4,10 +4,10 @@ use Rattle.std.proofs.Math.Path.{fun_ext}
 use Rattle.std.proofs.Math.Bool.{or-false}
 use Rattle.std.proofs.lemmas.Bool.{both_ways, cases_eq, eq-eqb, ne_eqb}
 use Rattle.std.proofs.lemmas.Nat.{le_or_l, or_lt, pow_below}
-use Rattle.std.proofs.lemmas.Nat.Bits.{bit_at-pow_other, bit_at-pow_same, shr_and_one}
+use Rattle.std.proofs.lemmas.Nat.Bits.{shr_and_one}
 use Rattle.lane_board.specs.Field.{Field, difference}
 use Rattle.lane_board.specs.Lanes.{has_bit}
-use Rattle.lane_board.proofs.CallerLemmas.{has_bit-or}
+use Rattle.lane_board.proofs.CallerLemmas.{has_bit-or, has_bit-pow}
 use Rattle.tiled_pieces.specs.declared.laid.Laid.{Laid}
 use Rattle.tiled_pieces.specs.Orders.{cells_at, left_after, number_after, weight_at}
 
@@ -15,13 +15,9 @@ pub has_set : (set index : ℕ) → nat_eq (bit_and (set / 2 ^ index) 1) 1 ≡ h
 unfolding has_bit
 has_set set index = ap (λ b. b == 1) (shr_and_one set index)
 
-power_bit : (i k : ℕ) → has_bit (2 ^ i) k ≡ (k == i)
-unfolding has_bit
-power_bit i k = search (rules, cases_eq, bit_at-pow_same, eq-eqb, bit_at-pow_other, ne_eqb)
-
 -- the set with one piece more
 joined_bit : (set i k : ℕ) → has_bit (bit_or set (2 ^ i)) k ≡ (has_bit set k || (k == i))
-joined_bit set i k = has_bit-or set (2 ^ i) k ∙ ap (λ b. has_bit set k || b) (power_bit i k)
+joined_bit set i k = has_bit-or set (2 ^ i) k ∙ ap (λ b. has_bit set k || b) (has_bit-pow i k)
 
 joined_other : (set i k : ℕ) → (k ≡ i → ⊥) → has_bit (bit_or set (2 ^ i)) k ≡ has_bit set k
 joined_other set i k other = joined_bit set i k ∙ ap (λ b. has_bit set k || b) (ne_eqb k i other) ∙ or-false (has_bit set k)
