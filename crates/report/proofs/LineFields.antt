@@ -17,7 +17,7 @@ use Rattle.srs.specs.Piece.{piece_code}
 use Rattle.srs.specs.Cells.{Cell, in_well, cells_of, is_inside_of}
 use Rattle.well.specs.Lock.{together, locked}
 use Rattle.moves.specs.declared.key.Key.{Key}
-use Rattle.moves.specs.Keys.{key_letter}
+use Rattle.moves.specs.Keys.{key_letter, word_letters}
 use Rattle.fumen_digits.specs.declared.dialect.Dialect.TheVariants.{V115}
 use Rattle.fumen_comment.specs.Escape.{escaped, escaped_unit, stays, HasUnits}
 use Rattle.fumen_pages.specs.declared.page.Page.{Page}
@@ -133,7 +133,7 @@ escaped_key : (key : Key) → escaped_unit (key_letter key) ≡ key_letter key �
 unfolding stays
 escaped_key key = search rules
 
-escaped_keys : (word : List Key) → escaped (map key_letter word ++ 72 ∷ []) ≡ map key_letter word ++ 72 ∷ []
+escaped_keys : (word : List Key) → escaped (word_letters word) ≡ word_letters word
 unfolding escaped stays
 escaped_keys [] = refl
 escaped_keys (key ∷ word) = λ i. escaped_key key i ++ escaped_keys word i
@@ -144,7 +144,7 @@ letter_fits key = search rules
 comment_units : (word : Option (List Key)) → HasUnits (keys_comment word)
 comment_units None = λ units is. absurd cc
 comment_units (Some word) = λ units is.
-    let same : map key_letter word ++ 72 ∷ [] ≡ units = cc in
+    let same : word_letters word ≡ units = cc in
     let Fit : ℕ → Type 0 = λ unit. unit < 2 ^ 16 in
     subst (All Fit) same
     (All-append Fit (map key_letter word) (72 ∷ []) (All-map Fit key_letter word (λ i d below. letter_fits (get_or word i d))) (All-cons Fit 72 [] (omega arith) (All-nil Fit)))

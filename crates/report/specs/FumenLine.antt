@@ -5,7 +5,7 @@ use Rattle.lane_board.specs.FullRows.{columns}
 use Rattle.srs.specs.declared.placement.Placement.{Placement}
 use Rattle.well.specs.Lock.{locked}
 use Rattle.moves.specs.declared.key.Key.{Key}
-use Rattle.moves.specs.Keys.{key_letter}
+use Rattle.moves.specs.Keys.{word_letters}
 use Rattle.fumen_digits.specs.declared.dialect.Dialect.TheVariants.{V115}
 use Rattle.fumen_pages.specs.declared.page.Page.{Page}
 use Rattle.fumen_pages.specs.Next.{empty_row, next}
@@ -27,7 +27,7 @@ grey_cells F = grey_rows F 23 ++ empty_row
 
 -- the letters of the keys, and `H` for the hard drop at the end
 abbrev pub keys_comment : Option (List Key) → Option (List ℕ)
-keys_comment keys = option_map (λ keys. map key_letter keys ++ 72 ∷ []) keys
+keys_comment keys = option_map word_letters keys
 
 -- a page on which a placement locks, with its keys as the comment where there are some
 abbrev pub placing_page : List ℕ → Bool → Placement → Option (List Key) → Page

@@ -1,11 +1,11 @@
 // A sequence as a fumen text, with one page for each placement.
-ghost use Rattle.std.specs.Prelude.{◌≡◌, ◌≤◌, [], ◌∷◌, ◌++◌, Err, None, IfOk, OnOk, IsTrue, length, map, option_map};
+ghost use Rattle.std.specs.Prelude.{◌≡◌, ◌≤◌, [], ◌∷◌, ◌++◌, Err, None, IfOk, OnOk, IsTrue, length, option_map};
 ghost use Rattle.srs.specs.Cells.{is_inside_of};
 ghost use Rattle.srs.specs.Rules.{table_of};
 ghost use Rattle.well.specs.Well.{filled};
 ghost use Rattle.pc_outside.specs.Writes.{WritesAll};
 ghost use Rattle.problem.specs.Solution.{PlaysIn};
-ghost use Rattle.moves.specs.Keys.{key_letter};
+ghost use Rattle.moves.specs.Keys.{word_letters};
 ghost use Rattle.report.specs.Forms.{key_part};
 ghost use Rattle.fumen_digits.specs.declared.dialect.Dialect.TheVariants.{V115};
 ghost use Rattle.fumen_pages.specs.Cells.{AreCells};
@@ -174,7 +174,7 @@ fn placing_page(
 
 /// The letters of the keys, and `H` for the hard drop at the end.
 fn keys_comment(alloc: Global, word: &KeyWord) -> Result<Comment, NoMemory>
-    ensures { IfOk result (λ comment. comment ≡ map key_letter word.now.items ++ 72 ∷ []) }
+    ensures { IfOk result (λ comment. comment ≡ word_letters word.now.items) }
 {
     let mut units = Vec::with_capacity(alloc, word.len() + 1)?;
     for key in word.as_slice() {

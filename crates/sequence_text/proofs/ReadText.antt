@@ -113,7 +113,8 @@ at_key placement front byte next so_far stepped = elim (cases_Bool (is_key_lette
       })
   | inr is ↦
       let taken = when-some (byte == 72) (reading due.AfterKeys placement) next (rw is at stepped) in
-      let whole = ap (λ t. t ++ byte ∷ []) so_far.whole ∙ ap (λ b. so_far.text ++ 58 ∷ map key_letter so_far.pressed ++ b ∷ []) (eqb-true byte 72 taken.0) in
+      let whole = ap (λ t. t ++ byte ∷ []) so_far.whole ∙ append_assoc so_far.text (58 ∷ map key_letter so_far.pressed) (byte ∷ [])
+      ∙ ap (λ b. so_far.text ++ 58 ∷ (map key_letter so_far.pressed ++ b ∷ [])) (eqb-true byte 72 taken.0) in
       subst (Grown front byte) taken.1 (subst (λ t. SpellsPlacement t placement) (sym whole) (with_keys so_far.written so_far.pressed))
 ] where
   letters : (pressed : List Key) (key : Key) (byte : ℕ) → key_letter key ≡ byte → map key_letter pressed ++ byte ∷ [] ≡ map key_letter (pressed ++ key ∷ [])

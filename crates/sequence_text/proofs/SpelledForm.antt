@@ -1,8 +1,7 @@
 -- What is written of placements in the well spells them.
-use Rattle.std.proofs.Common.{suc, ◌≤◌, List, [], ◌∷◌, length, map, All, append-nil, append_assoc, Some, None, refl, subst, arith, rules}
+use Rattle.std.proofs.Common.{suc, ◌≤◌, List, [], ◌∷◌, length, map, All, append-nil, Some, None, refl, arith, rules}
 use Rattle.std.proofs.lemmas.List.{length-map}
 use Rattle.srs.specs.declared.placement.Placement.{Placement}
-use Rattle.moves.specs.Keys.{key_letter}
 use Rattle.placement_form.specs.Form.{placement_form, IsPlacementText}
 use Rattle.sequence_text.specs.Form.{alone, with_keys, none, last, more, Spells, SpellsPlacement, SpellsSequence}
 use Rattle.sequence_text.specs.Written.{Keyed, keyed_form, sequence_form}
@@ -17,8 +16,7 @@ text_of placement column row = record { column = column; row = row; written = re
 item_spelled : (item : Keyed) → InWell item → SpellsPlacement (keyed_form item) item.0
 item_spelled (placement, None) inside = search (rules, append-nil, alone, text_of)
 item_spelled (placement, Some keys) inside =
-    subst (λ t. SpellsPlacement t placement) (append_assoc (placement_form placement) (58 ∷ map key_letter keys) (72 ∷ []))
-    (with_keys {text = placement_form placement} {placement = placement} (text_of placement inside.0 inside.1) keys)
+    with_keys {text = placement_form placement} {placement = placement} (text_of placement inside.0 inside.1) keys
 
 first_inside : (item : Keyed) (rest : List Keyed) → All InWell (item ∷ rest) → InWell item
 first_inside item rest inside = inside 0 item (omega arith)

@@ -11,7 +11,7 @@ use Rattle.srs.specs.Piece.{piece_letter}
 use Rattle.srs.specs.Rotation.{rotation_letter}
 use Rattle.moves.specs.declared.key.Key.{Key}
 use Rattle.moves.specs.declared.key.Key.TheVariants as keys
-use Rattle.moves.specs.Keys.{key_letter}
+use Rattle.moves.specs.Keys.{key_letter, word_letters}
 use Rattle.placement_form.specs.Form.{placement_form, IsPlacementText}
 use Rattle.placement_form.proofs.CallerLemmas.{two_digits, digit_read, two_read, piece_read}
 use Rattle.sequence_text.specs.declared.reading.Due.{Due}
@@ -113,7 +113,7 @@ module _ (read : List Placement) (left : ℕ) (sequence : List Placement) where
   placement_read text rest placement (alone is) ends = text_read text rest placement is (ends.at due.AfterRow refl)
   placement_read text rest placement (with_keys {text = front} is pressed) ends =
       let keys = 58 ∷ map key_letter pressed in
-      let parts : front ++ (keys ++ 72 ∷ rest) ≡ (front ++ keys ++ 72 ∷ []) ++ rest = sym (append_assoc front keys (72 ∷ rest)) ∙ sym (append_assoc (front ++ keys) (72 ∷ []) rest) in
+      let parts : front ++ (keys ++ 72 ∷ rest) ≡ (front ++ 58 ∷ word_letters pressed) ++ rest = ap (λ t. front ++ t) (sym (append_assoc keys (72 ∷ []) rest)) ∙ sym (append_assoc front (keys ++ 72 ∷ []) rest) in
       subst (λ t. Reads read left unread t sequence) parts
       (text_read front (keys ++ 72 ∷ rest) placement is (one_byte 58 refl refl (letters placement pressed rest (ends.at due.AfterKeys refl))))
 

@@ -1,8 +1,8 @@
 -- The form of a sequence's text: which texts spell which sequences of placements.
-use Rattle.std.specs.Prelude.{◌≡◌, ℕ, ◌<◌, ◌≤◌, List, [], ◌∷◌, ◌++◌, length, map, take}
+use Rattle.std.specs.Prelude.{◌≡◌, ℕ, ◌<◌, ◌≤◌, List, [], ◌∷◌, ◌++◌, length, take}
 use Rattle.srs.specs.declared.placement.Placement.{Placement}
 use Rattle.moves.specs.declared.key.Key.{Key}
-use Rattle.moves.specs.Keys.{key_letter}
+use Rattle.moves.specs.Keys.{word_letters}
 use Rattle.placement_form.specs.Form.{IsPlacementText}
 
 -- the text of a placement, alone or with keys that lead to it: a colon, the letters of any keys, and `H` for the hard
@@ -10,7 +10,7 @@ use Rattle.placement_form.specs.Form.{IsPlacementText}
 pub data SpellsPlacement : List ℕ → Placement → Type 0 where
   alone : {text : List ℕ} {placement : Placement} → IsPlacementText text placement → SpellsPlacement text placement
   with_keys : {text : List ℕ} {placement : Placement} → IsPlacementText text placement → (keys : List Key)
-      → SpellsPlacement (text ++ 58 ∷ map key_letter keys ++ 72 ∷ []) placement
+      → SpellsPlacement (text ++ 58 ∷ word_letters keys) placement
 
 -- placements divided by single blanks
 pub data SpellsSequence : List ℕ → List Placement → Type 0 where

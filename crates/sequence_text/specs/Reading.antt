@@ -1,11 +1,13 @@
 -- How the text of a sequence is read, byte by byte. The law `texts_are_read_as_they_spell` ties it to `Form`.
-use Rattle.std.specs.Prelude.{ℕ, zero, suc, ◌+◌, ◌-◌, Bool, true, false, ◌&&◌, ◌||◌, ◌==◌, nat_lt, if◌then◌else◌, List, [], ◌∷◌, ◌++◌, Option, Some, None, option_map, Result, Ok, Err}
+use Rattle.std.specs.Prelude.{ℕ, zero, suc, ◌+◌, ◌-◌, Bool, true, false, ◌&&◌, ◌==◌, nat_lt, if◌then◌else◌, List, [], ◌∷◌, ◌++◌, Option, Some, None, option_map, Result, Ok, Err}
+use Rattle.std.specs.List.{list_any}
 use Rattle.std.specs.Option.{option_map_or}
 use Rattle.arrayvec.specs.ArrayVec.{ArrayVec}
 use Rattle.srs.specs.declared.piece.Piece.TheVariants.{I}
 use Rattle.srs.specs.declared.rotation.Rotation.TheVariants.{Spawn}
 use Rattle.srs.specs.declared.placement.Placement.{Placement}
 use Rattle.srs.specs.Rotation.{rotation_with_letter}
+use Rattle.moves.specs.Keys.{all_keys, key_letter}
 use Rattle.placement_form.specs.Reading.{capital_piece, digit_in, two_digit_row}
 use Rattle.sequence_text.specs.declared.reading.Due.{Due}
 use Rattle.sequence_text.specs.declared.reading.Due.TheVariants as due
@@ -32,7 +34,7 @@ after_row_step placement byte =
     (two_digit_row placement.y ones)) (digit_in byte) (keys_step placement byte)
 
 abbrev pub is_key_letter : ℕ → Bool
-is_key_letter byte = byte == 76 || (byte == 82 || (byte == 68 || (byte == 67 || byte == 65)))
+is_key_letter byte = list_any (λ key. key_letter key == byte) all_keys
 
 -- letters of keys, and the hard drop that ends them
 abbrev pub key_step : Placement → ℕ → Option Reading

@@ -3,7 +3,7 @@ use Rattle.std.specs.Prelude.{ℕ, Option, Some, None, List, [], ◌∷◌, ◌+
 use Rattle.std.specs.List.{flat_map}
 use Rattle.srs.specs.declared.placement.Placement.{Placement}
 use Rattle.moves.specs.declared.key.Key.{Key}
-use Rattle.moves.specs.Keys.{key_letter}
+use Rattle.moves.specs.Keys.{word_letters}
 use Rattle.placement_form.specs.Form.{placement_form}
 
 -- a placement, and the keys that are written behind it where there are some
@@ -13,7 +13,7 @@ Keyed = Placement × Option (List Key)
 -- a colon, the letters of the keys, and `H` for the hard drop at the end
 abbrev pub keys_form : Option (List Key) → List ℕ
 keys_form None = []
-keys_form (Some keys) = 58 ∷ (map key_letter keys ++ 72 ∷ [])
+keys_form (Some keys) = 58 ∷ word_letters keys
 
 abbrev pub keyed_form : Keyed → List ℕ
 keyed_form item = placement_form item.0 ++ keys_form item.1

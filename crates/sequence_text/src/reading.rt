@@ -2,6 +2,7 @@
 ghost use Rattle.std.specs.Prelude.{◌≡◌, ◌<◌};
 ghost use Rattle.sequence_text.specs.Reading.{step, step_at, after_row_step, keys_step, key_step, is_key_letter, may_end, unread};
 
+use moves::Key;
 use placement_form::{capital_piece, digit_in, two_digit_row};
 use srs::{Piece, Placement, Rotation};
 
@@ -30,7 +31,7 @@ pub struct Reading {
 fn is_key_letter(byte: u8) -> bool
     ensures { result ≡ is_key_letter byte }
 {
-    matches!(byte, b'L' | b'R' | b'D' | b'C' | b'A')
+    Key::ALL.iter().any(|key| key.letter() == byte)
 }
 
 fn keys_step(placement: Placement, byte: u8) -> Option<Reading>
