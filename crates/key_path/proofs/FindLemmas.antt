@@ -11,6 +11,7 @@ use Rattle.srs.specs.Kick.{Table}
 use Rattle.srs.specs.SameCells.{HasSameCells}
 use Rattle.srs.proofs.CallerLemmas.{same_cells-sym, same_cells-trans, same_cells-piece, Contains-here, Contains-cases, Contains-none, some_same}
 use Rattle.well.specs.Free.{is_free}
+use Rattle.well.proofs.CallerLemmas.{free_pivot_inside}
 use Rattle.moves.specs.declared.key.Key.{Key}
 use Rattle.moves.specs.declared.key.DropMode.{DropMode}
 use Rattle.moves.specs.Keys.{allows}
@@ -19,7 +20,7 @@ use Rattle.moves.specs.PlaceTest.{comes_to_rest}
 use Rattle.moves.specs.Place.{LeadsToRest}
 use Rattle.moves.specs.Step.{step_of}
 use Rattle.moves.specs.Walk.{led, Leads}
-use Rattle.moves.proofs.CallerLemmas.{IsFreeState, step_is_finite, step_of-free, pivot_of_free, one_state, led_good, led_none, not_some, from_tests, to_tests}
+use Rattle.moves.proofs.CallerLemmas.{IsFreeState, step_is_finite, step_of-free, one_state, led_good, led_none, not_some, from_tests, to_tests}
 use Rattle.circular_buffer.specs.Buffer.{Buffer, buffer, keep_last}
 use Rattle.key_path.specs.declared.marks.Mark.{Mark}
 use Rattle.key_path.specs.declared.marks.Mark.TheVariants.{Unseen, Start, From}
@@ -121,7 +122,7 @@ module _ (table : Table) (F : Field) (mode : DropMode) (target : Placement) wher
           let here = found_free free trying.items (trying.x ∷ trying.front) trying.sought trying.x (trying.sought.among trying.x (Contains-here trying.x trying.front)) in
           let there = found_free free trying.items (trying.x ∷ trying.front) trying.sought found.0 found.1 in
           let after = (step_is_finite table F target.piece).kept trying.x.state key t here e in
-          (found.0, found.1, one_state found.0.state t (there.kind ∙ sym after.kind) (pivot_of_free F found.0.state there.free) (pivot_of_free F t after.free) found.2)
+          (found.0, found.1, one_state found.0.state t (there.kind ∙ sym after.kind) (free_pivot_inside F found.0.state there.free) (free_pivot_inside F t after.free) found.2)
 
   -- a key that leads to a new state, which does not come to rest there
   pub trying_new : is_free F (spawn_of target.piece) ≡ true → (marks marks' : List Mark) (waiting waiting' : List Placement) (state : Placement) (n : ℕ) (key : Key) (t : Placement) → key_index key ≡ n → new_state table F mode marks state key ≡ Some t →
@@ -130,8 +131,8 @@ module _ (table : Table) (F : Field) (mode : DropMode) (target : Placement) wher
       let new : IsNew table F mode marks state key t = new_is table F mode marks state key t found in
       let here = trying.sought.among trying.x (Contains-here trying.x trying.front) in
       let moves : step_of table F trying.x.state key ≡ Some t = subst (λ s. step_of table F s key ≡ Some t) (sym trying.at) new.moves in
-      let from = pivot_of_free F trying.x.state (found_free free trying.items (trying.x ∷ trying.front) trying.sought trying.x here).free in
-      let pivot = pivot_of_free F t (step_of-free table F state key t new.moves).free in
+      let from = free_pivot_inside F trying.x.state (found_free free trying.items (trying.x ∷ trying.front) trying.sought trying.x here).free in
+      let pivot = free_pivot_inside F t (step_of-free table F state key t new.moves).free in
       record {
         items = trying.items ++ with_key trying.x key t ∷ [];
         x = trying.x;
@@ -153,7 +154,7 @@ module _ (table : Table) (F : Field) (mode : DropMode) (target : Placement) wher
   pub new_counts : (marks marks' : List Mark) (waiting : List Placement) (state : Placement) (n : ℕ) (key : Key) (t : Placement) → new_state table F mode marks state key ≡ Some t → marks' ≡ with_mark marks t (From state key) → IsTrying table F mode target marks waiting state n →
       count_by is_unseen marks' + 1 ≡ count_by is_unseen marks
   new_counts marks marks' waiting state n key t found set trying =
-      search (rules, (new_is table F mode marks state key t found), (count_marked marks t (From state key) trying.noted.size), (pivot_of_free F t), (step_of-free table F state key t))
+      search (rules, (new_is table F mode marks state key t found), (count_marked marks t (From state key) trying.noted.size), (free_pivot_inside F t), (step_of-free table F state key t))
 
   -- it is a free state of the piece
   pub new_free : is_free F (spawn_of target.piece) ≡ true → (marks : List Mark) (waiting : List Placement) (state : Placement) (n : ℕ) (key : Key) (t : Placement) → new_state table F mode marks state key ≡ Some t → IsTrying table F mode target marks waiting state n → IsFreeState F target.piece t
@@ -163,7 +164,7 @@ module _ (table : Table) (F : Field) (mode : DropMode) (target : Placement) wher
   -- there is room for it
   pub new_fits : (marks : List Mark) (waiting : List Placement) (state : Placement) (n : ℕ) (key : Key) (t : Placement) → new_state table F mode marks state key ≡ Some t → IsTrying table F mode target marks waiting state n → length (waiting ++ t ∷ []) ≤ 920
   new_fits marks waiting state n key t found trying =
-      search (rules, (new_is table F mode marks state key t found), (room_left marks trying.items t), (pivot_of_free F t), (step_of-free table F state key t), (length-append waiting (t ∷ [])), (length-map trying.front (λ (x : Item). x.state)))
+      search (rules, (new_is table F mode marks state key t found), (room_left marks trying.items t), (free_pivot_inside F t), (step_of-free table F state key t), (length-append waiting (t ∷ [])), (length-map trying.front (λ (x : Item). x.state)))
 
   -- a key that leads to a new state which comes to rest there
   pub new_reached : is_free F (spawn_of target.piece) ≡ true → (marks marks' : List Mark) (waiting : List Placement) (state : Placement) (n : ℕ) (key : Key) (t : Placement) → key_index key ≡ n → new_state table F mode marks state key ≡ Some t →
@@ -203,8 +204,8 @@ module _ (table : Table) (F : Field) (mode : DropMode) (target : Placement) wher
       }
 
       noted : AreMarked (with_mark marks t (From trying.x.state key)) (trying.items ++ with_key trying.x key t ∷ [])
-      noted = noted_new marks trying.items trying.x key t here (pivot_of_free F trying.x.state (found_free free trying.items (trying.x ∷ trying.front) trying.sought trying.x here).free)
-          (pivot_of_free F t (step_of-free table F state key t new.moves).free) new.unseen trying.noted
+      noted = noted_new marks trying.items trying.x key t here (free_pivot_inside F trying.x.state (found_free free trying.items (trying.x ∷ trying.front) trying.sought trying.x here).free)
+          (free_pivot_inside F t (step_of-free table F state key t new.moves).free) new.unseen trying.noted
 
       traces : Traces (with_mark marks t (From trying.x.state key)) t (reverse word)
       traces = noted.traces (with_key trying.x key t) (Contains-push trying.items (with_key trying.x key t))

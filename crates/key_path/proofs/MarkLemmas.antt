@@ -9,10 +9,11 @@ use Rattle.std.proofs.lemmas.List.Elements.{Contains-append_left, Contains-push,
 use Rattle.std.proofs.lemmas.Grind.{common_steps}
 use Rattle.srs.specs.declared.placement.Placement.{Placement}
 use Rattle.srs.proofs.CallerLemmas.{Contains-here, Contains-cases, Contains-none}
+use Rattle.srs.specs.Cells.{HasPivotInWell}
 use Rattle.moves.specs.declared.key.Key.{Key}
 use Rattle.key_path.specs.declared.marks.Mark.{Mark}
 use Rattle.key_path.specs.declared.marks.Mark.TheVariants.{Unseen, Start, From}
-use Rattle.moves.specs.States.{IsPivot, state_code}
+use Rattle.moves.specs.States.{state_code}
 use Rattle.moves.proofs.CallerLemmas.{code_below}
 use Rattle.key_path.specs.Marks.{mark_at, with_mark, is_unseen, Traces}
 use Rattle.key_path.specs.Search.{Item, with_key, AreMarked}
@@ -25,7 +26,7 @@ traces_once marks s (k ∷ ks) [] one other = let e : From one.0 k ≡ Start = s
 traces_once marks s (k ∷ ks) (l ∷ ls) one other = search (rules, (traces_once marks one.0 ks ls one.3))
 
 -- a mark that was set is there, and the others stay
-mark_here : (marks : List Mark) (s : Placement) (mark : Mark) → length marks ≡ 920 → IsPivot s → mark_at (with_mark marks s mark) s ≡ mark
+mark_here : (marks : List Mark) (s : Placement) (mark : Mark) → length marks ≡ 920 → HasPivotInWell s → mark_at (with_mark marks s mark) s ≡ mark
 unfolding mark_at with_mark
 mark_here marks s mark size pivot = get_or-set_same marks (state_code s) mark Unseen (omega (arith, size, code_below s pivot))
 
@@ -63,20 +64,20 @@ not_same : (m n : ℕ) → (m < n) ⊎ (n < m) → m ≢ n
 not_same m n apart same = elim apart [ inl less ↦ omega (arith, less, same) | inr more ↦ omega (arith, more, same) ]
 
 -- one mark fewer is unseen
-pub count_marked : (marks : List Mark) (s : Placement) (mark : Mark) → length marks ≡ 920 → IsPivot s → is_unseen (mark_at marks s) ≡ true → is_unseen mark ≡ false →
+pub count_marked : (marks : List Mark) (s : Placement) (mark : Mark) → length marks ≡ 920 → HasPivotInWell s → is_unseen (mark_at marks s) ≡ true → is_unseen mark ≡ false →
     count_by is_unseen (with_mark marks s mark) + 1 ≡ count_by is_unseen marks
 unfolding mark_at with_mark
 count_marked marks s mark size pivot unseen other = search (rules, sum_by-set, code_below)
 
 -- where a state is unseen there is room for an item
-pub room_left : (marks : List Mark) (items : List Item) (s : Placement) → IsPivot s → is_unseen (mark_at marks s) ≡ true → AreMarked marks items → length items < 920
+pub room_left : (marks : List Mark) (items : List Item) (s : Placement) → HasPivotInWell s → is_unseen (mark_at marks s) ≡ true → AreMarked marks items → length items < 920
 room_left marks items s pivot unseen noted = omega (arith, noted.counted, count_marked marks s Start noted.size pivot unseen refl)
 
 sized : (marks : List Mark) (s : Placement) (mark : Mark) → length marks ≡ 920 → length (with_mark marks s mark) ≡ 920
 unfolding with_mark
 sized marks s mark size = length-set marks (state_code s) mark ∙ size
 
-pub noted_first : (start : Placement) → IsPivot start → AreMarked (with_mark (replicate 920 Unseen) start Start) (record { state = start; word = [] } ∷ [])
+pub noted_first : (start : Placement) → HasPivotInWell start → AreMarked (with_mark (replicate 920 Unseen) start Start) (record { state = start; word = [] } ∷ [])
 noted_first start pivot = record {
   size = sized (replicate 920 Unseen) start Start none;
   traces = λ x among. subst (λ x. Traces (with_mark (replicate 920 Unseen) start Start) x.state (reverse x.word)) (only x among) (mark_here (replicate 920 Unseen) start Start none pivot);
@@ -93,7 +94,7 @@ noted_first start pivot = record {
     only : (x : Item) → Contains (record { state = start; word = [] } ∷ []) x → record { state = start; word = [] } ≡ x
     only x among = elim (Contains-cases _ [] x among) [ inl e ↦ e | inr none ↦ absurd (Contains-none x none) ]
 
-pub noted_new : (marks : List Mark) (items : List Item) (x : Item) (key : Key) (t : Placement) → Contains items x → IsPivot x.state → IsPivot t → is_unseen (mark_at marks t) ≡ true → AreMarked marks items →
+pub noted_new : (marks : List Mark) (items : List Item) (x : Item) (key : Key) (t : Placement) → Contains items x → HasPivotInWell x.state → HasPivotInWell t → is_unseen (mark_at marks t) ≡ true → AreMarked marks items →
     AreMarked (with_mark marks t (From x.state key)) (items ++ with_key x key t ∷ [])
 noted_new marks items x key t here from pivot unseen noted = record {
   size = sized marks t (From x.state key) noted.size;
@@ -116,7 +117,7 @@ noted_new marks items x key t here from pivot unseen noted = record {
 pub record IsBack (marks : List Mark) (from : Placement) (key : Key) (keys : List Key) : Type 0 where
   pub rest : List Key
   pub is : keys ≡ key ∷ rest
-  pub pivot : IsPivot from
+  pub pivot : HasPivotInWell from
   pub traces : Traces marks from rest
 
 pub one_back : (marks : List Mark) (s from : Placement) (key : Key) (keys : List Key) → mark_at marks s ≡ From from key → Traces marks s keys → IsBack marks from key keys

@@ -4,10 +4,11 @@ use Rattle.std.specs.Bool.{then_some}
 use Rattle.lane_board.specs.Field.{Field}
 use Rattle.srs.specs.declared.placement.Placement.{Placement}
 use Rattle.srs.specs.Kick.{Table}
+use Rattle.srs.specs.Cells.{HasPivotInWell}
 use Rattle.moves.specs.declared.key.Key.{Key}
 use Rattle.moves.specs.declared.key.DropMode.{DropMode}
 use Rattle.moves.specs.Keys.{allows}
-use Rattle.moves.specs.States.{IsPivot, state_code}
+use Rattle.moves.specs.States.{state_code}
 use Rattle.moves.specs.Step.{step_of}
 use Rattle.key_path.specs.declared.marks.Mark.{Mark}
 use Rattle.key_path.specs.declared.marks.Mark.TheVariants.{Unseen, Start, From}
@@ -27,7 +28,7 @@ is_unseen _ = false
 abbrev pub Traces : List Mark → Placement → List Key → Type 0
 Traces marks state [] = mark_at marks state ≡ Start
 Traces marks state (key ∷ keys) =
-    (from : Placement) × (mark_at marks state ≡ From from key) × IsPivot from × Traces marks from keys
+    (from : Placement) × (mark_at marks state ≡ From from key) × HasPivotInWell from × Traces marks from keys
 
 -- they do by fewer keys than there are states
 pub record Traced (marks : List Mark) (state : Placement) : Type 0 where

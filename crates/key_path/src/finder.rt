@@ -1,7 +1,7 @@
 // The search for the least key word.
 ghost use Rattle.std.specs.Prelude.{◌≡◌, ◌+◌, IsTrue, false, MatchOption, length, option_map};
 ghost use Rattle.std.specs.List.{count_by};
-ghost use Rattle.srs.specs.Cells.{is_inside_of};
+ghost use Rattle.srs.specs.Cells.{is_inside_of, HasPivotInWell};
 ghost use Rattle.srs.specs.Canonical.{IsCanonical};
 ghost use Rattle.srs.specs.Kick.{srs_table};
 ghost use Rattle.srs.specs.Rules.{table_of};
@@ -10,7 +10,6 @@ ghost use Rattle.well.specs.Well.{filled};
 ghost use Rattle.moves.specs.Leads.{spawn_of};
 ghost use Rattle.moves.specs.PlaceTest.{comes_to_rest};
 ghost use Rattle.key_path.specs.LeastKeyWord.{IsLeastKeyWord, least_key_word};
-ghost use Rattle.moves.specs.States.{IsPivot};
 ghost use Rattle.key_path.specs.Marks.{is_unseen, new_state};
 ghost use Rattle.key_path.specs.Search.{IsFinding, IsTrying, LeadsBack};
 
@@ -191,7 +190,7 @@ impl Finder {
             self.new.waiting.items
             × (count_by is_unseen marks.new.marks + length self.new.waiting.items
             ≡ count_by is_unseen marks.old.marks + length self.old.waiting.items))
-            (λ reached. IsPivot reached × LeadsBack (table_of rules.now)
+            (λ reached. HasPivotInWell reached × LeadsBack (table_of rules.now)
             (filled states.now.well) drop_mode aim.now marks.new.marks reached) }
     {
         for key in Key::ALL {

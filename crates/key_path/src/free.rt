@@ -1,12 +1,11 @@
 // The free states of a well, kept as boards, and keys that nothing hinders.
 ghost use Rattle.std.specs.Prelude.{◌≡◌, ◌≤◌, ◌<◌, ◌⊎◌, IfSome, IsTrue, true, pos, List, ◌∷◌};
-ghost use Rattle.srs.specs.Cells.{Cell, moved, pivot_of};
+ghost use Rattle.srs.specs.Cells.{Cell, moved, pivot_of, HasPivotInWell};
 ghost use Rattle.srs.specs.Kick.{pair_of};
 ghost use Rattle.srs.specs.Rotation.{clockwise_of, anticlockwise_of};
 ghost use Rattle.srs.specs.Rules.{table_of};
 ghost use Rattle.well.specs.Free.{is_free, is_free_at};
 ghost use Rattle.well.specs.Well.{filled};
-ghost use Rattle.moves.specs.States.{IsPivot};
 ghost use Rattle.moves.specs.Step.{IsShort, first_free, step_of, turned};
 ghost use Rattle.place_sets.specs.States.{states_of};
 ghost use Rattle.whole_flood.specs.FreePivots.{IsFreeMap};
@@ -54,7 +53,7 @@ impl FreeStates {
     /// The state that a key leads to, if its first test already makes it free.
     fn unhindered(&self, rules: &Rules, state: &Placement, key: Key) -> Option<Placement>
         requires kind { state.now.piece ≡ self.now.piece }
-        requires pivot { IsPivot state.now }
+        requires pivot { HasPivotInWell state.now }
         ensures { IfSome result (λ next.
             step_of (table_of rules.now) (filled self.now.well) state.now key ≡ Some next) }
     {
@@ -70,7 +69,7 @@ impl FreeStates {
     /// The state in another rotation, if the first test makes it free.
     fn turned(&self, rules: &Rules, state: &Placement, to: Rotation) -> Option<Placement>
         requires kind { state.now.piece ≡ self.now.piece }
-        requires pivot { IsPivot state.now }
+        requires pivot { HasPivotInWell state.now }
         requires neighbour { (to ≡ clockwise_of state.now.rotation) ⊎ (to ≡ anticlockwise_of state.now.rotation) }
         ensures { IfSome result (λ next.
             turned (table_of rules.now) (filled self.now.well) state.now to ≡ Some next) }
@@ -81,7 +80,7 @@ impl FreeStates {
     /// The state in this rotation with its pivot moved, if a board has it.
     fn moved(&self, state: &Placement, rotation: Rotation, change: Offset) -> Option<Placement>
         requires kind { state.now.piece ≡ self.now.piece }
-        requires pivot { IsPivot state.now }
+        requires pivot { HasPivotInWell state.now }
         requires short { IsShort change }
         ensures { IfSome result (λ next. (pivots : List Cell) →
             first_free (filled self.now.well) state.now.piece rotation

@@ -1,6 +1,7 @@
 // How each state of a piece was first reached.
 ghost use Rattle.std.specs.Prelude.{◌≡◌, reverse, replicate};
-ghost use Rattle.moves.specs.States.{IsPivot, state_code};
+ghost use Rattle.srs.specs.Cells.{HasPivotInWell};
+ghost use Rattle.moves.specs.States.{state_code};
 ghost use Rattle.key_path.specs.Marks.{mark_at, with_mark, is_unseen, Traced};
 
 use crate::finder::KeyWord;
@@ -39,7 +40,7 @@ impl Marks {
 
     /// Whether a state has not been reached yet.
     pub(crate) fn is_unseen(&self, state: &Placement) -> bool
-        requires { IsPivot state.now }
+        requires { HasPivotInWell state.now }
         ensures { result ≡ is_unseen (mark_at self.now.marks state.now) }
     {
         matches!(self.at(state), Mark::Unseen)
@@ -48,7 +49,7 @@ impl Marks {
     /// The mark of a state.
     #[tactic(auto, using(moves::proofs::CallerLemmas::code_below), unfolding(crate::specs::Marks::mark_at))]
     fn at(&self, state: &Placement) -> Mark
-        requires { IsPivot state.now }
+        requires { HasPivotInWell state.now }
         ensures { result ≡ mark_at self.now.marks state.now }
     {
         self.marks[code(state)]
@@ -57,7 +58,7 @@ impl Marks {
     /// Marks a state.
     #[tactic(auto, using(moves::proofs::CallerLemmas::code_below), unfolding(crate::specs::Marks::with_mark))]
     pub(crate) fn set(&mut self, state: &Placement, mark: Mark)
-        requires { IsPivot state.now }
+        requires { HasPivotInWell state.now }
         ensures { self.new.marks ≡ with_mark self.old.marks state.now mark }
     {
         self.marks[code(state)] = mark;
@@ -65,7 +66,7 @@ impl Marks {
 
     /// The keys that lead to a state.
     pub(crate) fn word_to(&self, state: &Placement) -> KeyWord
-        requires pivot { IsPivot state.now }
+        requires pivot { HasPivotInWell state.now }
         requires traced { Traced self.now.marks state.now }
         ensures { (traced : Traced self.now.marks state.now) → result.items ≡ reverse traced.keys }
     {
@@ -83,7 +84,7 @@ impl Marks {
 /// The index of a state among all states with their pivot in the well.
 #[tactic(auto, unfolding(moves::specs::States::state_code))]
 fn code(state: &Placement) -> usize
-    requires { IsPivot state.now }
+    requires { HasPivotInWell state.now }
     ensures { result ≡ state_code state.now }
 {
     usize::from(state.rotation.index()) * 230 + (usize::from(state.y) * 10 + usize::from(state.x))

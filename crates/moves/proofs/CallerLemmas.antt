@@ -10,7 +10,7 @@ pub use Rattle.moves.proofs.RestTest.{from_tests, leads-free, leads_to_rest-deci
 pub use Rattle.moves.proofs.SkyLemmas.{sky_free, sky_is_reached, soft_allows}
 pub use Rattle.moves.proofs.SoftPlaces.{leads-append, soft_places}
 pub use Rattle.moves.proofs.StateLemmas.{code_below, one_state}
-pub use Rattle.moves.proofs.StepLemmas.{IsFreeState, pivot_of_free, spawned-free, step_is_finite, step_of-free}
+pub use Rattle.moves.proofs.StepLemmas.{IsFreeState, spawned-free, step_is_finite, step_of-free}
 pub use Rattle.moves.proofs.TurnLemmas.{kick_is_short}
 pub use Rattle.moves.proofs.WalkLemmas.{led_good, led_none, not_some, short_keys}
 pub use Rattle.moves.proofs.WindowLemmas.{window}

@@ -14,7 +14,7 @@ use Rattle.srs.specs.SameCells.{is_among}
 use Rattle.srs.specs.Kick.{srs_table}
 use Rattle.srs.proofs.CallerLemmas.{less, is_among-moved, is_among-all, list_all-from_is_among, in_well-place, inside_cell, each_state, some_same, int_le-true}
 use Rattle.well.specs.Free.{is_open, is_free_at, is_free}
-use Rattle.well.proofs.CallerLemmas.{open_at, free_inside, free_pivot}
+use Rattle.well.proofs.CallerLemmas.{open_at, free_inside, free_pivot, free_pivot_inside}
 use Rattle.well.specs.LockLaws.{LiesBelow}
 use Rattle.moves.specs.declared.key.Key.{Key}
 use Rattle.moves.specs.declared.key.Key.TheVariants.{Left, Right, Down, Clockwise, Anti}
@@ -24,7 +24,7 @@ use Rattle.moves.specs.Leads.{spawned, spawn_of, state_after}
 use Rattle.moves.specs.Rest.{lowered}
 use Rattle.moves.specs.Step.{first_free, shifted, step_of}
 use Rattle.moves.specs.Walk.{led}
-use Rattle.moves.proofs.StepLemmas.{step_of-free, pivot_of_free}
+use Rattle.moves.proofs.StepLemmas.{step_of-free}
 use Rattle.moves.proofs.WalkLemmas.{not_some, led_none}
 use Rattle.moves.specs.Height.{rise, upright, fits_column}
 use Rattle.moves.specs.OpenKeys.{Spot, open_key, is_some, path}
@@ -70,7 +70,7 @@ module _ (F : Field) (r : ℕ) (clear : LiesBelow F r) (h : ℕ) (piece : Piece)
   -- without Down a step keeps the height
   pub stays_level : (s : Placement) (key : Key) (t : Placement) → StandsAt h piece s → IsTrue (allows Hard key) → step_of srs_table F s key ≡ Some t → StandsAt h piece t
   stays_level s key t at allowed e =
-      search (rules, (step_of-free srs_table F s key t e), (key_level s key t), (free_fits F t.piece t.rotation (pos t.x, pos t.y) (step_of-free srs_table F s key t e).free), (pivot_of_free F t (step_of-free srs_table F s key t e).free))
+      search (rules, (step_of-free srs_table F s key t e), (key_level s key t), (free_fits F t.piece t.rotation (pos t.x, pos t.y) (step_of-free srs_table F s key t e).free), (free_pivot_inside F t (step_of-free srs_table F s key t e).free))
 
   pub led_level : (keys : List Key) (s t : Placement) → StandsAt h piece s → All (λ key. IsTrue (allows Hard key)) keys → led (step_of srs_table F) (Some s) keys ≡ Some t → StandsAt h piece t
   led_level [] s t at allowed e = subst (StandsAt h piece) (some_same e) at
@@ -132,7 +132,7 @@ turns_keep F r s clear free low high_enough =
     let h = natural (upright s) (omega (arith, ints)) in
     let is = h.is in
     let room : IsOpenHeight s.piece r h.n = open_height s.piece r h.n (omega (arith, ints)) (omega (arith, ints)) in
-    let pivot = pivot_of_free F s free in
+    let pivot = free_pivot_inside F s free in
     let at : StandsAt h.n s.piece s = record { kind = refl; height = is; fits = free_fits F s.piece s.rotation (pos s.x, pos s.y) free; column = omega (arith, pivot.in_columns) } in
     let both = and_parts _ _ (both_turns F r clear h.n s.piece room s at) in
     (keeps h.n room is Clockwise both.0, keeps h.n room is Anti both.1)

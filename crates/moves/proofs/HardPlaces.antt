@@ -1,6 +1,7 @@
 -- With hard drop the places are the resting states under the sky.
 use Rattle.std.proofs.Common.{◌≡◌, ◌↔◌, ℕ, ◌+◌, ◌-◌, ◌<◌, ◌≤◌, pos, Some, sym, ap, ◌∙◌, arith}
 use Rattle.std.proofs.lemmas.Int.{ints}
+use Rattle.well.proofs.CallerLemmas.{free_pivot_inside}
 use Rattle.lane_board.specs.Field.{Field}
 use Rattle.srs.specs.declared.piece.Piece.{Piece}
 use Rattle.srs.specs.declared.placement.Placement.{Placement}
@@ -11,7 +12,6 @@ use Rattle.moves.specs.declared.key.DropMode.TheVariants.{Hard}
 use Rattle.moves.specs.Keys.{allows}
 use Rattle.moves.specs.Leads.{state_after}
 use Rattle.moves.specs.Place.{IsPlace}
-use Rattle.moves.proofs.StepLemmas.{pivot_of_free}
 use Rattle.moves.specs.OpenKeys.{path}
 use Rattle.moves.specs.Sky.{IsUnderSky}
 use Rattle.moves.specs.RestingStates.{IsRestWhere}
@@ -38,7 +38,7 @@ hard_places F r q clear low = (there, back)
         let by = near s in
         let small = rest_lane F r clear s found.rests in
         let fits = free_fits F s.piece s.rotation (pos s.x, pos s.y) found.rests.free in
-        let pivot = pivot_of_free F s found.rests.free in
+        let pivot = free_pivot_inside F s found.rests.free in
         let within : s.x < 10 = omega (arith, pivot.in_columns) in
         let top = high F r clear low s.piece s.rotation s.x within fits in
         let height = top.height in

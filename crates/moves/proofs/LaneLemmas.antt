@@ -14,7 +14,7 @@ use Rattle.srs.specs.Kick.{srs_table, kicks_of}
 use Rattle.srs.specs.Rotation.{clockwise_of, anticlockwise_of}
 use Rattle.srs.proofs.CallerLemmas.{cell_eq-decides, less, is_among-moved, is_among-all, each_state, some_same, int_le-true}
 use Rattle.well.specs.Free.{is_free_at, is_free}
-use Rattle.well.proofs.CallerLemmas.{free_inside, free_pivot}
+use Rattle.well.proofs.CallerLemmas.{free_inside, free_pivot, free_pivot_inside}
 use Rattle.well.specs.LockLaws.{LiesBelow}
 use Rattle.moves.specs.declared.key.Key.{Key}
 use Rattle.moves.specs.declared.key.Key.TheVariants.{Left, Right, Down, Clockwise, Anti}
@@ -23,7 +23,7 @@ use Rattle.moves.specs.Keys.{allows}
 use Rattle.moves.specs.Leads.{spawned, spawn_of, state_after}
 use Rattle.moves.specs.Step.{first_free, shifted, turned, step_of}
 use Rattle.moves.specs.Walk.{led}
-use Rattle.moves.proofs.StepLemmas.{step_of-free, pivot_of_free}
+use Rattle.moves.proofs.StepLemmas.{step_of-free}
 use Rattle.moves.proofs.WalkLemmas.{not_some, led_none}
 use Rattle.moves.specs.Height.{rise, upright}
 use Rattle.moves.specs.Sky.{IsUnderSky}
@@ -133,7 +133,7 @@ pub record IsOpenState (r : ℕ) (F : Field) (piece : Piece) (s : Placement) : T
 
 module _ (F : Field) (r N : ℕ) (clear : LiesBelow F r) (over : r + 2 ≤ N) (few : N ≤ 16) (piece : Piece) (S : Placement → Type 0) (flood : IsFloodBelow N F piece S) where
   stands : (s : Placement) → IsAbove N F piece s → (h : ℕ) → upright s ≡ pos h → StandsAt h piece s
-  stands s above h e = search (rules, pivot_of_free, free_fits)
+  stands s above h e = search (rules, free_pivot_inside, free_fits)
 
   level_open : (s t : Placement) (key : Key) → IsAbove N F piece s → IsTrue (allows Hard key) → step_of srs_table F s key ≡ Some t → IsOpenState r F piece t
   level_open s t key above allowed e =

@@ -13,7 +13,7 @@ use Rattle.moves.specs.declared.key.Key.{Key}
 use Rattle.moves.specs.declared.key.Key.TheVariants.{Left, Right, Down, Clockwise, Anti}
 use Rattle.moves.specs.Step.{state_at, first_free, shifted, turned, step_of}
 use Rattle.moves.specs.Leads.{spawned}
-use Rattle.moves.specs.States.{IsPivot, state_code}
+use Rattle.moves.specs.States.{state_code}
 use Rattle.moves.proofs.StateLemmas.{code_below, one_state}
 use Rattle.moves.proofs.WalkLemmas.{not_some, IsFinite}
 use Rattle.srs.proofs.CallerLemmas.{some_same}
@@ -40,17 +40,13 @@ step_of-free table F s Down t e = first_free-free F s.piece _ _ t e
 step_of-free table F s Clockwise t e = first_free-free F s.piece _ _ t e
 step_of-free table F s Anti t e = first_free-free F s.piece _ _ t e
 
--- the pivot of a free state lies in the well
-pub pivot_of_free : (F : Field) (s : Placement) → is_free F s ≡ true → IsPivot s
-pivot_of_free F s free = let inside = free_pivot_inside F s free in record { in_columns = inside.in_columns; in_rows = inside.in_rows }
-
 pub step_is_finite : (table : Table) (F : Field) (piece : Piece) → IsFinite (step_of table F) (IsFreeState F piece) state_code 920
 step_is_finite table F piece = record {
   kept = λ s key t here e.
       let there = step_of-free table F s key t e in
       record { kind = there.kind ∙ here.kind; free = there.free };
-  below = λ s here. code_below s (pivot_of_free F s here.free);
-  one = λ s t here there e. one_state s t (here.kind ∙ sym there.kind) (pivot_of_free F s here.free) (pivot_of_free F t there.free) e;
+  below = λ s here. code_below s (free_pivot_inside F s here.free);
+  one = λ s t here there e. one_state s t (here.kind ∙ sym there.kind) (free_pivot_inside F s here.free) (free_pivot_inside F t there.free) e;
 }
 
 -- the spawn, where it is free

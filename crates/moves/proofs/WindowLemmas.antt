@@ -15,7 +15,7 @@ use Rattle.srs.specs.Cells.{Cell, moved, shape, cells_of, pivot_of}
 use Rattle.srs.specs.Kick.{srs_table}
 use Rattle.srs.proofs.CallerLemmas.{same_cells-piece, origin, is_among-all, each_state, pivot_in_shape, some_same, int_le-true}
 use Rattle.well.specs.Free.{is_free_at, is_free}
-use Rattle.well.proofs.CallerLemmas.{free_inside}
+use Rattle.well.proofs.CallerLemmas.{free_inside, free_pivot_inside}
 use Rattle.well.specs.LockLaws.{LiesBelow}
 use Rattle.moves.specs.declared.key.Key.{Key}
 use Rattle.moves.specs.declared.key.Key.TheVariants.{Left, Right, Down, Clockwise, Anti}
@@ -26,7 +26,7 @@ use Rattle.moves.specs.Leads.{spawned, spawn_of, state_after}
 use Rattle.moves.specs.Place.{IsPlace}
 use Rattle.moves.specs.Step.{step_of}
 use Rattle.moves.specs.Walk.{led}
-use Rattle.moves.proofs.StepLemmas.{step_of-free, pivot_of_free}
+use Rattle.moves.proofs.StepLemmas.{step_of-free}
 use Rattle.moves.proofs.WalkLemmas.{not_some, led_none}
 use Rattle.moves.specs.Height.{rise, depth, upright}
 use Rattle.moves.specs.Sky.{IsUnderSky}
@@ -129,7 +129,7 @@ module _ (F : Field) (r : ℕ) (clear : LiesBelow F r) (few : r ≤ 8) (piece : 
       let tall = high.tall in
       let low = high.low in
       let h = natural (upright s) (omega (arith, ints)) in
-      search (rules, (open_height piece r h.n), (free_fits F s.piece s.rotation (pos s.x, pos s.y) high.free), (pivot_of_free F s high.free), (stays_level F r clear h.n piece), (step_of-free srs_table F s key t e))
+      search (rules, (open_height piece r h.n), (free_fits F s.piece s.rotation (pos s.x, pos s.y) high.free), (free_pivot_inside F s high.free), (stays_level F r clear h.n piece), (step_of-free srs_table F s key t e))
 
   -- from the band Down leads into the window
   down_high : (s t : Placement) → IsHigh F r piece s → step_of srs_table F s Down ≡ Some t → Here t
@@ -256,7 +256,7 @@ windowed_hard F r s t clear few way above =
     let h = natural (upright from) (omega (arith, ints)) in
     let is = h.is in
     let room : IsOpenHeight from.piece r h.n = record { low = omega (arith, ints); high = omega (arith, ints) } in
-    let pivot = pivot_of_free F from at.free in
+    let pivot = free_pivot_inside F from at.free in
     let start : StandsAt h.n from.piece from = record { kind = refl; height = is; fits = free_fits F from.piece from.rotation (pos from.x, pos from.y) at.free; column = omega (arith, pivot.in_columns) } in
     let there = led_level F r clear h.n from.piece room way.keys from s start way.allowed (low_leads F way.keys from s way.leads_there) in
     sky_from F r clear t above.rests.free (λ j under. above.free j (few_rows h.n room.low there j under))

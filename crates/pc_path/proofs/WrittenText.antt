@@ -1,10 +1,11 @@
 -- What a report writes for a solution spells it.
-use Rattle.std.proofs.Common.{◌≡◌, ℕ, ◌-◌, ◌≤◌, List, [], ◌∷◌, ◌++◌, length, map, Bool, None, All, refl, ap, subst, ◌∙◌, sym, arith, rules}
+use Rattle.std.proofs.Common.{◌≡◌, ℕ, ◌-◌, List, [], ◌∷◌, ◌++◌, length, map, Bool, None, All, refl, ap, subst, ◌∙◌, sym}
 use Rattle.std.proofs.lemmas.List.{append_cancel_right, length-map}
+use Rattle.std.proofs.lemmas.List.Elements.{All-cons, All-nil}
 use Rattle.srs.specs.declared.placement.Placement.{Placement}
 use Rattle.srs.specs.Kick.{Table}
 use Rattle.srs.specs.Rules.{table_of}
-use Rattle.srs.proofs.CallerLemmas.{pivot_inside}
+use Rattle.srs.specs.Cells.{HasPivotInWell}
 use Rattle.lane_board.specs.Field.{Field}
 use Rattle.well.specs.Well.{filled}
 use Rattle.well.specs.Lock.{locked, rows_removed}
@@ -14,16 +15,12 @@ use Rattle.problem.specs.Plays.{Plays}
 use Rattle.problem.specs.Problem.{IsFit, needed_of}
 use Rattle.problem.specs.Solution.{IsSolution}
 use Rattle.problem.proofs.CallerLemmas.{long-needed}
-use Rattle.well.proofs.CallerLemmas.{free_inside}
+use Rattle.well.proofs.CallerLemmas.{free_pivot_inside}
 use Rattle.moves.proofs.CallerLemmas.{place-free}
 use Rattle.report.specs.Forms.{KeysOf, key_part, keyed, line_form}
 use Rattle.sequence_text.specs.Form.{Spells}
-use Rattle.sequence_text.specs.Written.{Keyed, sequence_form}
+use Rattle.sequence_text.specs.Written.{sequence_form}
 use Rattle.sequence_text.proofs.CallerLemmas.{written_is_spelled}
-
--- a placement in the well
-abbrev InWell : Keyed → Type 0
-InWell item = (item.0.x ≤ 9) × (item.0.y ≤ 22)
 
 -- the placements of a sequence with keys
 placements_of : (keys : KeysOf) (F : Field) (s : List Placement) → map (λ item. item.0) (keyed keys F s) ≡ s
@@ -31,15 +28,12 @@ unfolding keyed
 placements_of keys F [] = refl
 placements_of keys F (q ∷ s) = ap (λ l. q ∷ l) (placements_of keys (locked F q) s)
 
-more_inside : (item : Keyed) (rest : List Keyed) → InWell item → All InWell rest → All InWell (item ∷ rest)
-more_inside item rest here there h4 d within = search rules
-
-played_inside : (table : Table) (mode : DropMode) (keys : KeysOf) (s : List Placement) (F : Field) (rows : ℕ) → Plays table mode F rows s → All InWell (keyed keys F s)
+played_inside : (table : Table) (mode : DropMode) (keys : KeysOf) (s : List Placement) (F : Field) (rows : ℕ) → Plays table mode F rows s → All (λ item. HasPivotInWell item.0) (keyed keys F s)
 unfolding keyed
-played_inside table mode keys [] F rows plays = λ i d within. absurd (omega (arith, within))
+played_inside table mode keys [] F rows plays = All-nil (λ item. HasPivotInWell item.0)
 played_inside table mode keys (q ∷ s) F rows plays =
-    let pivot = pivot_inside q (free_inside F q (place-free table F mode q plays.0)) in
-    more_inside (q, keys F q) (keyed keys (locked F q) s) (pivot.in_columns, pivot.in_rows) (played_inside table mode keys s (locked F q) (rows - rows_removed F q) plays.2)
+    All-cons (λ item. HasPivotInWell item.0) (q, keys F q) (keyed keys (locked F q) s) (free_pivot_inside F q (place-free table F mode q plays.0))
+    (played_inside table mode keys s (locked F q) (rows - rows_removed F q) plays.2)
 
 solution_spelled : (problem : Problem) (sequence : List Placement) (keys : Bool) → IsFit problem → IsSolution problem None sequence
     → Spells (needed_of problem) (sequence_form (keyed (key_part keys (table_of problem.rules) problem.drop_mode) (filled problem.well) sequence)) sequence

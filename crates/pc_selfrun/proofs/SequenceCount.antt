@@ -5,7 +5,8 @@ use Rattle.lane_board.specs.Field.{Field}
 use Rattle.srs.specs.declared.placement.Placement.{Placement}
 use Rattle.srs.specs.Kick.{Table}
 use Rattle.srs.specs.Rules.{table_of}
-use Rattle.srs.proofs.CallerLemmas.{PivotInside, pivot_inside}
+use Rattle.srs.proofs.CallerLemmas.{pivot_inside}
+use Rattle.srs.specs.Cells.{HasPivotInWell}
 use Rattle.well.specs.Lock.{locked, rows_removed}
 use Rattle.well.specs.Well.{filled}
 use Rattle.moves.specs.declared.key.DropMode.{DropMode}
@@ -18,7 +19,7 @@ use Rattle.well.proofs.CallerLemmas.{free_inside}
 use Rattle.moves.proofs.CallerLemmas.{place-free}
 use Rattle.pc_selfrun.proofs.SequenceNumbers.{few_sequences}
 
-plays_inside : (table : Table) (mode : DropMode) (F : Field) (rows : ℕ) (s : List Placement) → Plays table mode F rows s → AllByRecursion PivotInside s
+plays_inside : (table : Table) (mode : DropMode) (F : Field) (rows : ℕ) (s : List Placement) → Plays table mode F rows s → AllByRecursion HasPivotInWell s
 plays_inside table mode F rows [] plays = tt
 plays_inside table mode F rows (q ∷ rest) plays =
     (pivot_inside q (free_inside F q (place-free table F mode q plays.0)), plays_inside table mode (locked F q) (rows - rows_removed F q) rest plays.2)

@@ -9,11 +9,12 @@ use Rattle.std.specs.declared.cmp.Ordering.TheVariants.{Less, Equal}
 use Rattle.std.proofs.lemmas.Bool.{ne_eqb, or_cases}
 use Rattle.std.proofs.lemmas.List.{length-map}
 use Rattle.std.proofs.lemmas.Map.Steps.{length-le_from_distinct_below}
-use Rattle.srs.proofs.CallerLemmas.{Contains-here, Contains-there, rising-first, rising-rest, PivotInside, piece_code-injective, rotation_index-injective, sequence_cmp-total, piece_code-some, rotation_index-small, same_placement}
+use Rattle.srs.proofs.CallerLemmas.{Contains-here, Contains-there, rising-first, rising-rest, piece_code-injective, rotation_index-injective, sequence_cmp-total, piece_code-some, rotation_index-small, same_placement}
 use Rattle.srs.specs.declared.placement.Placement.{Placement}
 use Rattle.srs.specs.Piece.{piece_code}
 use Rattle.srs.specs.Rotation.{rotation_index}
 use Rattle.srs.specs.Order.{sequence_cmp}
+use Rattle.srs.specs.Cells.{HasPivotInWell}
 
 -- ---- the number of a sequence
 
@@ -28,7 +29,7 @@ sequence_number : List Placement → ℕ
 sequence_number [] = 0
 sequence_number (q ∷ rest) = placement_number q + 6440 * sequence_number rest
 
-number_below : (q : Placement) → PivotInside q → placement_number q < 6440
+number_below : (q : Placement) → HasPivotInWell q → placement_number q < 6440
 unfolding placement_number number_with
 number_below q inside = search rules
 
@@ -42,7 +43,7 @@ with_same : (a b r s x u y v : ℕ) → 1 ≤ a → 1 ≤ b → r < 4 → s < 4 
 unfolding number_with
 with_same a b r s x u y v a-some b-some r-few s-few x-few u-few y-few v-few same = search rules
 
-same_number : (q r : Placement) → PivotInside q → PivotInside r → placement_number q ≡ placement_number r → q ≡ r
+same_number : (q r : Placement) → HasPivotInWell q → HasPivotInWell r → placement_number q ≡ placement_number r → q ≡ r
 unfolding placement_number
 same_number q r one other same =
     let is = with_same _ _ _ _ _ _ _ _ (piece_code-some q.piece) (piece_code-some r.piece) (rotation_index-small q.rotation) (rotation_index-small r.rotation) one.in_columns other.in_columns one.in_rows other.in_rows same in
@@ -51,9 +52,9 @@ same_number q r one other same =
 -- four placements whose pivots lie in the well
 pub record AreFour (s : List Placement) : Type 0 where
   pub four : length s ≡ 4
-  pub inside : AllByRecursion PivotInside s
+  pub inside : AllByRecursion HasPivotInWell s
 
-same_sequence : (s t : List Placement) → AllByRecursion PivotInside s → AllByRecursion PivotInside t → length s ≡ length t → sequence_number s ≡ sequence_number t → s ≡ t
+same_sequence : (s t : List Placement) → AllByRecursion HasPivotInWell s → AllByRecursion HasPivotInWell t → length s ≡ length t → sequence_number s ≡ sequence_number t → s ≡ t
 unfolding sequence_number
 same_sequence [] [] one other long same = refl
 same_sequence [] (r ∷ t) one other long same = absurd (omega (arith, long))

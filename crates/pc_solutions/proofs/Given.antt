@@ -4,12 +4,12 @@ use Rattle.std.proofs.lemmas.List.Elements.{All-cons, All-nil}
 use Rattle.lane_board.specs.Field.{Field}
 use Rattle.srs.specs.declared.placement.Placement.{Placement}
 use Rattle.srs.specs.Kick.{Table}
-use Rattle.srs.proofs.CallerLemmas.{pivot_inside}
+use Rattle.srs.specs.Cells.{HasPivotInWell}
 use Rattle.well.specs.Lock.{locked, rows_removed}
-use Rattle.well.proofs.CallerLemmas.{free_inside}
+use Rattle.well.proofs.CallerLemmas.{free_pivot_inside}
 use Rattle.moves.specs.declared.key.DropMode.{DropMode}
 use Rattle.moves.proofs.CallerLemmas.{place-free}
-use Rattle.placement_numbers.specs.Numbers.{AreNumbersOf, HasPivotInWell, sequence_numbers}
+use Rattle.placement_numbers.specs.Numbers.{AreNumbersOf, sequence_numbers}
 use Rattle.problem.specs.declared.problem.Problem.{Problem}
 use Rattle.problem.specs.Plays.{Plays}
 use Rattle.problem.specs.Problem.{IsFit, needed_of}
@@ -22,8 +22,7 @@ use Rattle.pc_solutions.specs.Asked.{AsksAfter, IsAfter, IsAsked}
 played_within : (table : Table) (mode : DropMode) (F : Field) (rows : ℕ) (sequence : List Placement) → Plays table mode F rows sequence → All HasPivotInWell sequence
 played_within table mode F rows [] plays = All-nil HasPivotInWell
 played_within table mode F rows (q ∷ rest) plays =
-    let pivot = pivot_inside q (free_inside F q (place-free table F mode q plays.0)) in
-    All-cons HasPivotInWell q rest (record { column = pivot.in_columns; row = pivot.in_rows })
+    All-cons HasPivotInWell q rest (free_pivot_inside F q (place-free table F mode q plays.0))
     (played_within table mode (locked F q) (rows - rows_removed F q) rest plays.2)
 
 pub solution_numbers : (problem : Problem) (sequence : List Placement) → IsFit problem → IsSolution problem None sequence → AreNumbersOf (needed_of problem) (sequence_numbers sequence) sequence

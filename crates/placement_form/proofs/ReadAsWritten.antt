@@ -35,9 +35,9 @@ rotation_only byte rotation read = eqb-true (rotation_letter rotation) byte (fin
 pub read-from_written : (text : List ℕ) (placement : Placement) → IsPlacementText text placement → placement_in text ≡ Some placement
 unfolding placement_form placement_in
 read-from_written text placement is =
-    let column : decimal placement.x ≡ (48 + placement.x) ∷ [] = decimal_digit placement.x (omega (arith, is.column)) in
+    let column : decimal placement.x ≡ (48 + placement.x) ∷ [] = decimal_digit placement.x (omega (arith, is.pivot.in_columns)) in
     let parts : text ≡ piece_letter placement.piece ∷ rotation_letter placement.rotation ∷ 58 ∷ (48 + placement.x) ∷ 44 ∷ decimal placement.y = is.written ∙ rw column refl in
-    rw (parts, piece_read placement.piece, rotation_with_letter-letter placement.rotation, digit_read placement.x is.column, row_read placement.y is.row) refl
+    rw (parts, piece_read placement.piece, rotation_with_letter-letter placement.rotation, digit_read placement.x is.pivot.in_columns, row_read placement.y is.pivot.in_rows) refl
 
 -- what is read was written
 parts_written : (a b c x d : ℕ) (row : List ℕ) (piece : Piece) (rotation : Rotation) (column y : ℕ) (placement : Placement)
@@ -51,8 +51,7 @@ parts_written a b c x d row piece rotation column y placement piece_is rotation_
     let rows = row_only row y row_is in
     let written : decimal column ≡ x ∷ [] = decimal_digit column (omega (arith, digit.small)) ∙ ap (λ b. b ∷ []) digit.is in
     subst (IsPlacementText (a ∷ b ∷ c ∷ x ∷ d ∷ row)) (same_Some _ placement same) (record {
-      column = digit.small;
-      row = rows.within;
+      pivot = record { in_columns = digit.small; in_rows = rows.within };
       written = rw (written) (λ i. sym (piece_only a piece piece_is) i ∷ sym (rotation_only b rotation rotation_is) i ∷ eqb-true c 58 signs.0 i ∷ x ∷ eqb-true d 44 signs.1 i ∷ rows.is i);
     })
 

@@ -9,7 +9,8 @@ use Rattle.srs.specs.declared.rotation.Rotation.{Rotation}
 use Rattle.srs.specs.declared.placement.Placement.{Placement}
 use Rattle.srs.specs.Piece.{piece_code, piece_with_code}
 use Rattle.srs.specs.Rotation.{rotation_index}
-use Rattle.placement_numbers.specs.Numbers.{AreNumbersOf, HasPivotInWell, numbers_of, sequence_numbers}
+use Rattle.srs.specs.Cells.{HasPivotInWell}
+use Rattle.placement_numbers.specs.Numbers.{AreNumbersOf, numbers_of, sequence_numbers}
 use Rattle.placement_numbers.specs.Reading.{placement_in, placements_in, rotation_at}
 
 -- ---- one placement

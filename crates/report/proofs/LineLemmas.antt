@@ -4,9 +4,9 @@ use Rattle.std.specs.List.{flat_map}
 use Rattle.std.proofs.lemmas.List.{drop_more, drop_all}
 use Rattle.lane_board.specs.Field.{Field}
 use Rattle.srs.specs.declared.placement.Placement.{Placement}
-use Rattle.srs.specs.Cells.{is_inside_of}
+use Rattle.srs.specs.Cells.{is_inside_of, HasPivotInWell}
 use Rattle.srs.specs.Kick.{Table}
-use Rattle.srs.proofs.CallerLemmas.{PivotInside, pivot_inside}
+use Rattle.srs.proofs.CallerLemmas.{pivot_inside}
 use Rattle.well.specs.Free.{is_free}
 use Rattle.well.specs.Lock.{locked, rows_removed}
 use Rattle.moves.specs.declared.key.DropMode.{DropMode}
@@ -79,7 +79,7 @@ plays_free table mode F s i d within on = place-free table F mode (get_or s i d)
 pub plays_inside : (table : Table) (mode : DropMode) (F : Field) (s : List Placement) (i : ℕ) (d : Placement) → i < length s → PlaysOn table mode F s i → is_inside_of (get_or s i d) ≡ true
 plays_inside table mode F s i d within on = free_inside F (get_or s i d) (plays_free table mode F s i d within on)
 
-pub plays_pivot : (table : Table) (mode : DropMode) (F : Field) (s : List Placement) (i : ℕ) (d : Placement) → i < length s → PlaysOn table mode F s i → PivotInside (get_or s i d)
+pub plays_pivot : (table : Table) (mode : DropMode) (F : Field) (s : List Placement) (i : ℕ) (d : Placement) → i < length s → PlaysOn table mode F s i → HasPivotInWell (get_or s i d)
 plays_pivot table mode F s i d within on = pivot_inside (get_or s i d) (plays_inside table mode F s i d within on)
 
 pub plays_next : (table : Table) (mode : DropMode) (F : Field) (s : List Placement) (i : ℕ) (d : Placement) → i < length s → PlaysOn table mode F s i → PlaysOn table mode (locked F (get_or s i d)) s (i + 1)

@@ -131,8 +131,7 @@ at_after_row placement front byte next so_far stepped = by (digit_in byte) refl
         let first : decimal placement.y ≡ (48 + placement.y) ∷ [] = decimal_digit placement.y (omega (arith, small)) in
         let both = both_digits (48 + placement.y) byte placement.y ones row (record { small = small; is = refl }) digit made in
         record {
-          column = so_far.column;
-          row = both.within;
+          pivot = record { in_columns = so_far.pivot.in_columns; in_rows = both.within };
           written = ap (λ t. t ++ byte ∷ []) so_far.written ∙ rw (first, sym both.is) (append_assoc (head placement ++ decimal placement.x ++ 44 ∷ []) ((48 + placement.y) ∷ []) (byte ∷ []));
         }
 

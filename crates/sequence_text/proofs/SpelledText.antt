@@ -97,16 +97,16 @@ module _ (read : List Placement) (left : ℕ) (sequence : List Placement) where
   text_read : (text rest : List ℕ) (placement : Placement) → IsPlacementText text placement → Reads read left (reading due.AfterRow placement) rest sequence → Reads read left unread (text ++ rest) sequence
   unfolding step placement_form
   text_read text rest placement is later =
-      let column : decimal placement.x ≡ (48 + placement.x) ∷ [] = decimal_digit placement.x (omega (arith, is.column)) in
+      let column : decimal placement.x ≡ (48 + placement.x) ∷ [] = decimal_digit placement.x (omega (arith, is.pivot.in_columns)) in
       let parts : text ++ rest ≡ piece_letter placement.piece ∷ rotation_letter placement.rotation ∷ 58 ∷ (48 + placement.x) ∷ 44 ∷ (decimal placement.y ++ rest) =
       ap (λ t. t ++ rest) is.written ∙ rw column refl in
       subst (λ t. Reads read left unread t sequence) (sym parts)
       (one_byte (piece_letter placement.piece) (piece_no_blank placement.piece) (piece_step unread.placement placement.piece)
       (one_byte (rotation_letter placement.rotation) (rotation_no_blank placement.rotation) (rotation_step (record unread.placement { piece = placement.piece }) placement.rotation)
       (one_byte 58 refl refl
-      (one_byte (48 + placement.x) (digit_no_blank placement.x) (column_step (record unread.placement { piece = placement.piece; rotation = placement.rotation }) placement.x is.column)
+      (one_byte (48 + placement.x) (digit_no_blank placement.x) (column_step (record unread.placement { piece = placement.piece; rotation = placement.rotation }) placement.x is.pivot.in_columns)
       (one_byte 44 refl refl
-      (row_read (record placement { y = 0 }) placement.y rest is.row later))))))
+      (row_read (record placement { y = 0 }) placement.y rest is.pivot.in_rows later))))))
 
   placement_read : (text rest : List ℕ) (placement : Placement) → SpellsPlacement text placement → Ends placement rest → Reads read left unread (text ++ rest) sequence
   unfolding step

@@ -1,6 +1,7 @@
 // Laws of the texts of sequences: functions with an empty body whose contract is the law.
-ghost use Rattle.std.specs.Prelude.{◌≡◌, ◌≤◌, ◌↔◌, ℕ, All, List, length, map, Ok, Err};
+ghost use Rattle.std.specs.Prelude.{◌≡◌, ◌↔◌, ℕ, All, List, length, map, Ok, Err};
 ghost use Rattle.srs.specs.declared.placement.Placement.{Placement};
+ghost use Rattle.srs.specs.Cells.{HasPivotInWell};
 ghost use Rattle.sequence_text.specs.Form.{IsRefusedAt, Spells};
 ghost use Rattle.sequence_text.specs.Reading.{sequence_in};
 ghost use Rattle.sequence_text.specs.Written.{Keyed, sequence_form};
@@ -20,8 +21,8 @@ pub fn spelled_sequences_are_determined()
         Spells needed text one → Spells needed text other → one ≡ other }
 {}
 
-/// The written text of placements in the well, with whatever keys, spells these placements.
+/// The written text of placements with their pivots in the well, with whatever keys, spells these placements.
 pub fn written_sequences_are_spelled()
-    ensures { (keyed : List Keyed) → All (λ item. (item.0.x ≤ 9) × (item.0.y ≤ 22)) keyed →
+    ensures { (keyed : List Keyed) → All (λ item. HasPivotInWell item.0) keyed →
         Spells (length keyed) (sequence_form keyed) (map (λ item. item.0) keyed) }
 {}

@@ -1,7 +1,7 @@
 -- Lemmas that the crates above cite.
 pub use Rattle.std.proofs.lemmas.Bool.{and_from as and_both}
 pub use Rattle.srs.proofs.BooleanLemmas.{and_first, and_second, implied, list_all-set, list_all-true, list_all_each, or_second}
-pub use Rattle.srs.proofs.CanonicalLemmas.{IsCanonical-from_test, LiesAt, PivotInside, canonical_cells, canonical_pivot, canonical_unique, found_canonical, found_cells, in_well-place, inside_cell, is_canonical-from, pivot_inside, same_cells-piece}
+pub use Rattle.srs.proofs.CanonicalLemmas.{IsCanonical-from_test, LiesAt, canonical_cells, canonical_pivot, canonical_unique, found_canonical, found_cells, in_well-place, inside_cell, is_canonical-from, pivot_inside, same_cells-piece}
 pub use Rattle.srs.proofs.CellLemmas.{cell_eq-decides, has_cell-head, is_among-all, is_among-moved, is_same_cells-decides, less-moved, list_all-from_is_among, map-moved-moved, moved-origin, same_cells-moved, same_cells-sym, same_cells-trans}
 unfoldable pub use Rattle.srs.proofs.CellLemmas.{less, origin}
 pub use Rattle.srs.proofs.CodeLemmas.{piece_code-injective, piece_with_code-code, rotation_at-index, rotation_index-injective, rotation_with_letter-letter, same_placement}

@@ -6,7 +6,7 @@ use Rattle.srs.specs.declared.piece.Piece.{Piece}
 use Rattle.srs.specs.declared.rotation.Rotation.{Rotation}
 use Rattle.srs.specs.declared.placement.Placement.{Placement}
 use Rattle.srs.specs.Rotation.{rotation_index}
-use Rattle.srs.specs.Cells.{Cell, moved, shape, cells_at, pivot_of, in_well, is_inside_of}
+use Rattle.srs.specs.Cells.{Cell, moved, shape, cells_at, pivot_of, in_well, is_inside_of, HasPivotInWell}
 use Rattle.srs.specs.SameCells.{is_among, SameCells, HasSameCells}
 use Rattle.srs.specs.Canonical.{IsCanonical, is_canonical, canonical_rotation, canonical_move}
 use Rattle.srs.proofs.CellLemmas.{apart_differ, is_among-all, moved-origin, origin, map-moved-moved, same_cells-moved, same_cells-sym, still_same}
@@ -66,11 +66,7 @@ in_well-place (negsuc x, pos y) h = cc
 in_well-place (negsuc x, negsuc y) h = cc
 
 -- the pivot of a placement that is inside lies in the well
-pub record PivotInside (s : Placement) : Type 0 where
-  pub in_columns : s.x ≤ 9
-  pub in_rows : s.y ≤ 22
-
-pub pivot_inside : (s : Placement) → is_inside_of s ≡ true → PivotInside s
+pub pivot_inside : (s : Placement) → is_inside_of s ≡ true → HasPivotInWell s
 pivot_inside s inside =
     search (rules, (in_well-place (pivot_of s) (subst (λ c. in_well c ≡ true) (moved-origin (pivot_of s)) (inside_cell s origin inside (pivot_in_shape s.piece s.rotation)))))
 

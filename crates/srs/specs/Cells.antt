@@ -1,6 +1,6 @@
 -- The cells of a piece in a rotation: the pivot moved by the four offsets of its shape, as the Super Rotation System
 -- has them.
-use Rattle.std.specs.Prelude.{ℕ, Bool, false, ◌&&◌, ℤ, pos, ◌+ℤ◌, neg_ℤ, int_le, nat_le, map, List, [], ◌∷◌}
+use Rattle.std.specs.Prelude.{ℕ, ◌≤◌, Bool, false, ◌&&◌, ℤ, pos, ◌+ℤ◌, neg_ℤ, int_le, nat_le, map, List, [], ◌∷◌}
 use Rattle.std.specs.List.{list_all}
 use Rattle.srs.specs.declared.piece.Piece.{Piece}
 use Rattle.srs.specs.declared.piece.Piece.TheVariants.{I, L, O, Z, T, J, S}
@@ -75,6 +75,11 @@ in_well _ = false
 -- all four cells lie in the well
 abbrev pub is_inside_of : Placement → Bool
 is_inside_of placement = list_all in_well (cells_of placement)
+
+-- the pivot lies in the well
+pub record HasPivotInWell (placement : Placement) : Type 0 where
+  pub in_columns : placement.x ≤ 9
+  pub in_rows : placement.y ≤ 22
 
 -- at most two columns and two rows
 abbrev pub is_near : Cell → Bool

@@ -6,9 +6,9 @@ use Rattle.lane_board.specs.Field.{Field}
 use Rattle.srs.specs.declared.piece.Piece.{Piece}
 use Rattle.srs.specs.declared.rotation.Rotation.{Rotation}
 use Rattle.srs.specs.declared.placement.Placement.{Placement}
-use Rattle.srs.specs.Cells.{Cell, cells_at, in_well, is_inside_of}
+use Rattle.srs.specs.Cells.{Cell, cells_at, in_well, is_inside_of, HasPivotInWell}
 use Rattle.srs.specs.SameCells.{is_among}
-use Rattle.srs.proofs.CallerLemmas.{less, origin, is_among-moved, is_among-all, pivot_in_shape, LiesAt, in_well-place, PivotInside, pivot_inside}
+use Rattle.srs.proofs.CallerLemmas.{less, origin, is_among-moved, is_among-all, pivot_in_shape, LiesAt, in_well-place, pivot_inside}
 use Rattle.well.specs.Free.{is_open, is_free_at, is_free}
 
 -- an open cell lies in the well
@@ -41,7 +41,7 @@ free_pivot_open F piece rotation pivot free = is_among-all (is_open F) (cells_at
 pub free_pivot : (F : Field) (piece : Piece) (rotation : Rotation) (pivot : Cell) → is_free_at F piece rotation pivot ≡ true → LiesAt pivot
 free_pivot F piece rotation pivot free = in_well-place pivot (open_in_well F pivot (free_pivot_open F piece rotation pivot free))
 
-pub free_pivot_inside : (F : Field) (s : Placement) → is_free F s ≡ true → PivotInside s
+pub free_pivot_inside : (F : Field) (s : Placement) → is_free F s ≡ true → HasPivotInWell s
 free_pivot_inside F s free = pivot_inside s (free_inside F s free)
 
 -- a cell that is not in the well is not open

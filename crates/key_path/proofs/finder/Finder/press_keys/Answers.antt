@@ -4,10 +4,10 @@ use Rattle.std.proofs.lemmas.List.{length-append}
 use Rattle.srs.specs.declared.placement.Placement.{Placement}
 use Rattle.srs.specs.Rules.{table_of}
 use Rattle.well.specs.Well.{filled}
+use Rattle.well.proofs.CallerLemmas.{free_pivot_inside}
 use Rattle.key_path.specs.Marks.{new_state}
 use Rattle.key_path.specs.Search.{IsTrying}
 use Rattle.key_path.proofs.WordLemmas.{key_at, key_index-at}
-use Rattle.moves.proofs.CallerLemmas.{pivot_of_free}
 use Rattle.key_path.proofs.FindLemmas.{pushed, new_free, new_counts, finding_next, trying_free, trying_kind, trying_same, trying_new, new_fits, new_reached}
 use Rattle.key_path.proofs.finder.Finder.press_keys.Goals as goal
 
@@ -26,7 +26,7 @@ loop-key-preserved-in_default c =
 
 pub set-requires : goal.set-requires
 set-requires c =
-    pivot_of_free (filled c.args.states.now.well) c.in-Some.next
+    free_pivot_inside (filled c.args.states.now.well) c.in-Some.next
     (new_free (table_of c.args.rules.now) (filled c.args.states.now.well) c.args.drop_mode c.args.aim.now c.requires.free c.loop-key.marks.marks c.loop-key.self.waiting.items c.args.state.now c.loop-key.key-index (key_at c.loop-key.key-index) c.in-Some.next
     (sym c.new_state.ensures ∙ c.in-Some.is) c.loop-key.invariant.0).free
 
@@ -42,7 +42,7 @@ rests_on-requires-clause-free c =
 
 pub returns-then-rests_on : goal.returns-then-rests_on
 returns-then-rests_on c = (
-  pivot_of_free (filled c.args.states.now.well) c.in-Some.next
+  free_pivot_inside (filled c.args.states.now.well) c.in-Some.next
       (new_free (table_of c.args.rules.now) (filled c.args.states.now.well) c.args.drop_mode c.args.aim.now c.requires.free c.loop-key.marks.marks c.loop-key.self.waiting.items c.args.state.now c.loop-key.key-index (key_at c.loop-key.key-index) c.in-Some.next
       (sym c.new_state.ensures ∙ c.in-Some.is) c.loop-key.invariant.0).free,
   new_reached (table_of c.args.rules.now) (filled c.args.states.now.well) c.args.drop_mode c.args.aim.now c.requires.free c.loop-key.marks.marks c.set.new.self.marks c.loop-key.self.waiting.items c.args.state.now c.loop-key.key-index (key_at c.loop-key.key-index) c.in-Some.next
