@@ -1,6 +1,5 @@
 -- A line placement by placement: without keys the fields do not matter, and with keys each placement is free in its field.
-use Rattle.std.proofs.Common.{None, arith, false, ◌≡◌, ℕ, ◌+◌, ◌-◌, ◌<◌, ◌≤◌, true, List, [], ◌∷◌, ◌++◌, length, drop, get_or, refl, ap, subst, append_assoc, Option, rules}
-use Rattle.std.specs.List.{flat_map}
+use Rattle.std.proofs.Common.{None, arith, false, ◌≡◌, ℕ, ◌+◌, ◌-◌, ◌<◌, ◌≤◌, true, List, [], ◌∷◌, ◌++◌, length, drop, get_or, refl, sym, ap, subst, append-nil, append_assoc, Option, rules}
 use Rattle.std.proofs.lemmas.List.{drop_more, drop_all}
 use Rattle.lane_board.specs.Field.{Field}
 use Rattle.srs.specs.declared.placement.Placement.{Placement}
@@ -40,15 +39,15 @@ divided keys divider F (q ∷ s) = (divider ++ keyed_form (q, keys F q)) ++ divi
 unfoldable pub line_from : KeysOf → List ℕ → Field → List Placement → List ℕ
 line_from keys divider F s = divided keys divider F s ++ 10 ∷ []
 
-rest_divided : (keys : KeysOf) (F : Field) (s : List Placement) → flat_map (λ item. 32 ∷ keyed_form item) (keyed keys F s) ≡ divided keys (32 ∷ []) F s
-unfolding keyed divided
-rest_divided keys F [] = refl
-rest_divided keys F (q ∷ s) = ap (λ l. (32 ∷ keyed_form (q, keys F q)) ++ l) (rest_divided keys (locked F q) s)
+rest_divided : (keys : KeysOf) (F : Field) (q : Placement) (s : List Placement) → sequence_form (keyed keys F (q ∷ s)) ≡ keyed_form (q, keys F q) ++ divided keys (32 ∷ []) (locked F q) s
+unfolding keyed divided sequence_form
+rest_divided keys F q [] = sym (append-nil (keyed_form (q, keys F q)))
+rest_divided keys F q (r ∷ s) = ap (λ l. keyed_form (q, keys F q) ++ 32 ∷ l) (rest_divided keys (locked F q) r s)
 
 all_divided : (keys : KeysOf) (F : Field) (s : List Placement) → sequence_form (keyed keys F s) ≡ divided keys [] F s
 unfolding keyed divided sequence_form
 all_divided keys F [] = refl
-all_divided keys F (q ∷ s) = ap (λ l. keyed_form (q, keys F q) ++ l) (rest_divided keys (locked F q) s)
+all_divided keys F (q ∷ s) = rest_divided keys F q s
 
 pub whole_line : (keys : KeysOf) (F : Field) (s : List Placement) → line_form keys F s ≡ line_from keys [] F s
 unfolding line_form line_from

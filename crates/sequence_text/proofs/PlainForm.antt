@@ -1,15 +1,15 @@
--- The text of placements without keys is that of placements with none.
-use Rattle.std.proofs.Common.{◌≡◌, List, [], ◌∷◌, ◌++◌, append-nil, refl, sym, rules}
+-- Placements without keys, one after the other.
+use Rattle.std.proofs.Common.{◌≡◌, ℕ, List, [], ◌∷◌, ◌++◌, append-nil, refl, sym}
 use Rattle.std.specs.List.{flat_map}
 use Rattle.srs.specs.declared.placement.Placement.{Placement}
 use Rattle.placement_form.specs.Form.{placement_form}
-use Rattle.sequence_text.specs.Plain.{next_form, plain_form}
-use Rattle.sequence_text.specs.Written.{keyed_form, sequence_form, without_keys}
+use Rattle.sequence_text.specs.Written.{sequence_form, without_keys}
 
-plain_rest : (s : List Placement) → flat_map next_form s ≡ flat_map (λ item. 32 ∷ keyed_form item) (without_keys s)
-plain_rest [] = refl
-plain_rest (q ∷ s) = λ i. (32 ∷ sym (append-nil (placement_form q)) i) ++ plain_rest s i
+-- a placement that follows another one: a blank stands before it
+abbrev pub next_form : Placement → List ℕ
+next_form placement = 32 ∷ placement_form placement
 
-pub plain_is : (s : List Placement) → plain_form s ≡ sequence_form (without_keys s)
+pub plain_is : (first : Placement) (rest : List Placement) → placement_form first ++ flat_map next_form rest ≡ sequence_form (without_keys (first ∷ rest))
 unfolding sequence_form
-plain_is s = search (rules, append-nil, plain_rest)
+plain_is first [] = refl
+plain_is first (second ∷ rest) = λ i. sym (append-nil (placement_form first)) i ++ 32 ∷ plain_is second rest i

@@ -24,7 +24,7 @@ rest_inside item rest inside = λ i d within. inside (suc i) d (omega (arith, wi
 items_spelled : (keyed : List Keyed) → All (λ item. HasPivotInWell item.0) keyed → SpellsSequence (sequence_form keyed) (map (λ item. item.0) keyed)
 unfolding sequence_form
 items_spelled [] inside = none
-items_spelled (item ∷ []) inside = search (rules, append-nil, last, item_spelled, first_inside)
+items_spelled (item ∷ []) inside = last (item_spelled item (first_inside item [] inside))
 items_spelled (first ∷ second ∷ rest) inside =
     more (item_spelled first (first_inside first (second ∷ rest) inside)) (items_spelled (second ∷ rest) (rest_inside first (second ∷ rest) inside))
 

@@ -1,6 +1,6 @@
 -- What is written of a sequence: its placements divided by single blanks, each with its keys where there are some.
 use Rattle.std.specs.Prelude.{ℕ, Option, Some, None, List, [], ◌∷◌, ◌++◌, map}
-use Rattle.std.specs.List.{flat_map}
+use Rattle.std.specs.List.{join_with_byte}
 use Rattle.srs.specs.declared.placement.Placement.{Placement}
 use Rattle.moves.specs.declared.key.Key.{Key}
 use Rattle.moves.specs.Keys.{word_letters}
@@ -20,8 +20,7 @@ keyed_form item = placement_form item.0 ++ keys_form item.1
 
 -- placements divided by single blanks, as `I0:7,0 O0:8,0` or `I0:7,0:RRRH`
 unfoldable pub sequence_form : List Keyed → List ℕ
-sequence_form [] = []
-sequence_form (first ∷ rest) = keyed_form first ++ flat_map (λ item. 32 ∷ keyed_form item) rest
+sequence_form keyed = join_with_byte 32 (map keyed_form keyed)
 
 -- placements with no keys
 abbrev pub without_keys : List Placement → List Keyed
