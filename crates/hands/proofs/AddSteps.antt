@@ -9,7 +9,7 @@ use Rattle.std.proofs.lemmas.List.Elements.{All-append, All-cons, All-drop, All-
 use Rattle.lane_board.specs.Lanes.{has_bit}
 use Rattle.lane_board.proofs.CallerLemmas.{has_bit-zero, same_from_columns}
 use Rattle.hands.specs.declared.block.Block.{Block}
-use Rattle.hands.specs.BlockHands.{AreHands, AreInOrder, IsBlock, IsHandAt, IsRising, hand_at, in_block, keys_of}
+use Rattle.hands.specs.BlockHands.{AreHands, KeysRise, IsBlock, IsHandAt, IsRising, hand_at, in_block, keys_of}
 use Rattle.hands.specs.Blocks.{ending_of, have_parts}
 use Rattle.hands.proofs.HasLemmas.{rising-push}
 use Rattle.hands.proofs.OrderLemmas.{key-at, keys-length, passed-before, rises-at, rises-from}
@@ -42,13 +42,13 @@ pub is_block : (block : Block) → AreHands block → (block.endings ≡ 0 → �
 is_block block hands some = record { hands = hands; some = some }
 
 -- behind the last block
-pub in_order-push : (blocks new : List Block) (block : Block) (done : Bool) → AreInOrder blocks → ((k : ℕ) (d : Block) → k < length blocks → (get_or blocks k d).key < block.key)
-    → new ≡ (if done then blocks ++ block ∷ [] else blocks) → AreInOrder new
+pub keys_rise-push : (blocks new : List Block) (block : Block) (done : Bool) → KeysRise blocks → ((k : ℕ) (d : Block) → k < length blocks → (get_or blocks k d).key < block.key)
+    → new ≡ (if done then blocks ++ block ∷ [] else blocks) → KeysRise new
 unfolding keys_of
-in_order-push blocks new block false up low is = subst AreInOrder (sym is) up
-in_order-push blocks new block true up low is = subst AreInOrder (sym is) (pushed blocks block up low)
+keys_rise-push blocks new block false up low is = subst KeysRise (sym is) up
+keys_rise-push blocks new block true up low is = subst KeysRise (sym is) (pushed blocks block up low)
   where
-    pushed : (blocks : List Block) (block : Block) → AreInOrder blocks → ((k : ℕ) (d : Block) → k < length blocks → (get_or blocks k d).key < block.key) → AreInOrder (blocks ++ block ∷ [])
+    pushed : (blocks : List Block) (block : Block) → KeysRise blocks → ((k : ℕ) (d : Block) → k < length blocks → (get_or blocks k d).key < block.key) → KeysRise (blocks ++ block ∷ [])
     pushed blocks block up low =
         rw (map_push (λ (b : Block). b.key) blocks block)
         (rising-push (keys_of blocks) block.key up (λ k below.
@@ -61,8 +61,8 @@ each-push blocks new block false each is_one is = subst (All IsBlock) (sym is) e
 each-push blocks new block true each is_one is = subst (All IsBlock) (sym is) (All-push IsBlock blocks block each is_one)
 
 -- before a block
-rises-insert : (blocks : List Block) (i : ℕ) (x : Block) → AreInOrder blocks → i ≤ length blocks → ((k : ℕ) (d : Block) → k < i → (get_or blocks k d).key < x.key)
-    → ((k : ℕ) (d : Block) → i ≤ k → k < length blocks → x.key < (get_or blocks k d).key) → AreInOrder (insert blocks i x)
+rises-insert : (blocks : List Block) (i : ℕ) (x : Block) → KeysRise blocks → i ≤ length blocks → ((k : ℕ) (d : Block) → k < i → (get_or blocks k d).key < x.key)
+    → ((k : ℕ) (d : Block) → i ≤ k → k < length blocks → x.key < (get_or blocks k d).key) → KeysRise (insert blocks i x)
 rises-insert blocks i x up within low high = rises-from (insert blocks i x) x rises
   where
     size : length (insert blocks i x) ≡ length blocks + 1
@@ -97,10 +97,10 @@ rises-insert blocks i x up within low high = rises-from (insert blocks i x) x ri
       ]
     ]
 
-pub in_order-insert : (blocks new : List Block) (i : ℕ) (x : Block) (done : Bool) → AreInOrder blocks → i ≤ length blocks → ((k : ℕ) (d : Block) → k < i → (get_or blocks k d).key < x.key)
-    → ((k : ℕ) (d : Block) → i ≤ k → k < length blocks → x.key < (get_or blocks k d).key) → new ≡ (if done then insert blocks i x else blocks) → AreInOrder new
-in_order-insert blocks new i x false up within low high is = subst AreInOrder (sym is) up
-in_order-insert blocks new i x true up within low high is = subst AreInOrder (sym is) (rises-insert blocks i x up within low high)
+pub keys_rise-insert : (blocks new : List Block) (i : ℕ) (x : Block) (done : Bool) → KeysRise blocks → i ≤ length blocks → ((k : ℕ) (d : Block) → k < i → (get_or blocks k d).key < x.key)
+    → ((k : ℕ) (d : Block) → i ≤ k → k < length blocks → x.key < (get_or blocks k d).key) → new ≡ (if done then insert blocks i x else blocks) → KeysRise new
+keys_rise-insert blocks new i x false up within low high is = subst KeysRise (sym is) up
+keys_rise-insert blocks new i x true up within low high is = subst KeysRise (sym is) (rises-insert blocks i x up within low high)
 
 pub each-insert : (blocks new : List Block) (i : ℕ) (x : Block) (done : Bool) → All IsBlock blocks → IsBlock x → new ≡ (if done then insert blocks i x else blocks) → All IsBlock new
 each-insert blocks new i x false each is_one is = subst (All IsBlock) (sym is) each
@@ -119,9 +119,9 @@ parts-insert blocks i x key ending =
     ∙ ap (λ b. b || has_part x key ending) (sym (parts-cut blocks i key ending))
 
 -- in a block with the same key
-pub in_order-set : (blocks : List Block) (i : ℕ) (x d : Block) → AreInOrder blocks → i < length blocks → x.key ≡ (get_or blocks i d).key → AreInOrder (set blocks i x)
+pub keys_rise-set : (blocks : List Block) (i : ℕ) (x d : Block) → KeysRise blocks → i < length blocks → x.key ≡ (get_or blocks i d).key → KeysRise (set blocks i x)
 unfolding keys_of
-in_order-set blocks i x d up within same = subst IsRising (sym keys) up
+keys_rise-set blocks i x d up within same = subst IsRising (sym keys) up
   where
     keys : keys_of (set blocks i x) ≡ keys_of blocks
     keys =
@@ -202,8 +202,8 @@ joins blocks i d read test other endings within d_is read_is test_is same bits =
   bits = λ k. bits k ∙ ap (λ (b : Block). has_bit b.endings k || has_bit other.endings k) (get_or_read blocks i read within read_is d);
 }
 
-pub joined-order : (blocks : List Block) (i : ℕ) (d other both : Block) → AreInOrder blocks → Joins blocks i d other both → AreInOrder (set blocks i both)
-joined-order blocks i d other both up join = in_order-set blocks i both d up join.within join.key_is
+pub joined-order : (blocks : List Block) (i : ℕ) (d other both : Block) → KeysRise blocks → Joins blocks i d other both → KeysRise (set blocks i both)
+joined-order blocks i d other both up join = keys_rise-set blocks i both d up join.within join.key_is
 
 pub joined-each : (blocks : List Block) (i : ℕ) (d other both : Block) → All IsBlock blocks → AreHands other → Joins blocks i d other both → All IsBlock (set blocks i both)
 joined-each blocks i d other both each hands join =
@@ -214,7 +214,7 @@ pub joined-parts : (blocks : List Block) (i : ℕ) (d other both : Block) (key e
 joined-parts blocks i d other both key ending join = parts-set blocks i d other both key ending join.within join.same join.key_is join.bits
 
 -- the keys from an index on are above one that isn't there
-pub above-all : (blocks : List Block) (index key : ℕ) (test : Block) → AreInOrder blocks → IsReached blocks index key → test ≡ get_or blocks index test → (test.key ≡ key → ⊥)
+pub above-all : (blocks : List Block) (index key : ℕ) (test : Block) → KeysRise blocks → IsReached blocks index key → test ≡ get_or blocks index test → (test.key ≡ key → ⊥)
     → (k : ℕ) (d : Block) → index ≤ k → k < length blocks → key < (get_or blocks k d).key
 above-all blocks index key test up reached test_is other k d from below = elim (cases_lt index k) [
   | inl later ↦ let step = rises-at blocks index k d d up later below in let le = reached.above index d (omega arith) (omega arith) in omega arith
@@ -228,7 +228,7 @@ above-all blocks index key test up reached test_is other k d from below = elim (
 ]
 
 -- the keys before an index are below one that the key before it is below
-pub low-before : (blocks : List Block) (index last key : ℕ) (test : Block) → AreInOrder blocks → 0 < index → index ≤ length blocks → last + 1 ≡ index → test ≡ get_or blocks last test → test.key < key
+pub low-before : (blocks : List Block) (index last key : ℕ) (test : Block) → KeysRise blocks → 0 < index → index ≤ length blocks → last + 1 ≡ index → test ≡ get_or blocks last test → test.key < key
     → (k : ℕ) (d : Block) → k < index → (get_or blocks k d).key < key
 low-before blocks index last key test up some within last_is test_is less k d early =
     let same : last ≡ index - 1 = omega arith in

@@ -5,7 +5,7 @@ use Rattle.std.proofs.lemmas.List.{length-map, get_or-map, get_or-drop, get_or-t
 use Rattle.std.proofs.Math.Bool.{or-false}
 use Rattle.lane_board.specs.Lanes.{has_bit}
 use Rattle.hands.specs.declared.block.Block.{Block}
-use Rattle.hands.specs.BlockHands.{AreInOrder, IsBlock, keys_of}
+use Rattle.hands.specs.BlockHands.{KeysRise, IsBlock, keys_of}
 use Rattle.hands.specs.Blocks.{have_parts}
 use Rattle.hands.proofs.PartLemmas.{no_block, parts-absent, parts-cut, parts-first, has_part}
 
@@ -18,20 +18,20 @@ unfolding keys_of
 key-at blocks i d below = get_or-map (λ block. block.key) blocks i d 0 below
 
 -- each key is below each later one
-pub rises-at : (blocks : List Block) (i j : ℕ) (d e : Block) → AreInOrder blocks → i < j → j < length blocks → (get_or blocks i d).key < (get_or blocks j e).key
+pub rises-at : (blocks : List Block) (i j : ℕ) (d e : Block) → KeysRise blocks → i < j → j < length blocks → (get_or blocks i d).key < (get_or blocks j e).key
 rises-at blocks i j d e up before below =
     let step : get_or (keys_of blocks) i 0 < get_or (keys_of blocks) j 0 = up i j before (omega (arith, keys-length blocks)) in
     omega (arith, step, key-at blocks i d (omega arith), key-at blocks j e below)
 
-pub rises-from : (blocks : List Block) (d : Block) → ((i j : ℕ) → i < j → j < length blocks → (get_or blocks i d).key < (get_or blocks j d).key) → AreInOrder blocks
+pub rises-from : (blocks : List Block) (d : Block) → ((i j : ℕ) → i < j → j < length blocks → (get_or blocks i d).key < (get_or blocks j d).key) → KeysRise blocks
 rises-from blocks d up i j before below =
     let within : j < length blocks = omega (arith, keys-length blocks, below) in
     let step = up i j before within in
     omega (arith, step, key-at blocks i d (omega arith), key-at blocks j d within)
 
 -- the first blocks, and the others
-pub in_order-take : (blocks : List Block) (n : ℕ) → AreInOrder blocks → AreInOrder (take n blocks)
-in_order-take blocks n up = rises-from (take n blocks) no_block (λ i j before within.
+pub keys_rise-take : (blocks : List Block) (n : ℕ) → KeysRise blocks → KeysRise (take n blocks)
+keys_rise-take blocks n up = rises-from (take n blocks) no_block (λ i j before within.
     let size = length-take n blocks in
     let low : j < n = omega (arith, size, within) in
     let step = rises-at blocks i j no_block no_block up before (omega (arith, size, within)) in
@@ -39,8 +39,8 @@ in_order-take blocks n up = rises-from (take n blocks) no_block (λ i j before w
     let two = ap (λ (b : Block). b.key) (get_or-take n blocks j no_block low) in
     omega (arith, step, one, two))
 
-pub in_order-drop : (blocks : List Block) (n : ℕ) → AreInOrder blocks → AreInOrder (drop n blocks)
-in_order-drop blocks n up = rises-from (drop n blocks) no_block (λ i j before within.
+pub keys_rise-drop : (blocks : List Block) (n : ℕ) → KeysRise blocks → KeysRise (drop n blocks)
+keys_rise-drop blocks n up = rises-from (drop n blocks) no_block (λ i j before within.
     let size = length-drop n blocks in
     let step = rises-at blocks (n + i) (n + j) no_block no_block up (omega (arith, before)) (omega (arith, size, within)) in
     let one = ap (λ (b : Block). b.key) (get_or-drop n blocks i no_block) in
@@ -63,7 +63,7 @@ pub record IsPassed (blocks : List Block) (next key : ℕ) : Type 0 where
 pub passed-none : (blocks : List Block) (key : ℕ) → IsPassed blocks 0 key
 passed-none blocks key = record { below = λ k d early. absurd (omega arith); within = omega arith }
 
-pub passed-before : (blocks : List Block) (next key : ℕ) (d : Block) → AreInOrder blocks → 0 < next → next ≤ length blocks → (get_or blocks (next - 1) d).key < key
+pub passed-before : (blocks : List Block) (next key : ℕ) (d : Block) → KeysRise blocks → 0 < next → next ≤ length blocks → (get_or blocks (next - 1) d).key < key
     → IsPassed blocks next key
 passed-before blocks next key d up some within less = record {
   below = λ k e early. elim (cases_lt k (next - 1)) [
@@ -73,8 +73,8 @@ passed-before blocks next key d up some within less = record {
   within = within;
 }
 
-pub in_order-none : (blocks : List Block) → blocks ≡ [] → AreInOrder blocks
-in_order-none blocks none i j before below = absurd (omega (arith, below, keys-length blocks, ap length none))
+pub keys_rise-none : (blocks : List Block) → blocks ≡ [] → KeysRise blocks
+keys_rise-none blocks none i j before below = absurd (omega (arith, below, keys-length blocks, ap length none))
 
 pub each-none : (blocks : List Block) → blocks ≡ [] → All IsBlock blocks
 each-none blocks none k d below = absurd (omega (arith, below, ap length none))
@@ -87,7 +87,7 @@ parts-passed blocks next key ending passed = parts-absent (take next blocks) key
     let key_is : (get_or (take next blocks) k d).key ≡ (get_or blocks k d).key = ap (λ (b : Block). b.key) is in
     omega (arith, same))
 
-pub parts-after : (blocks : List Block) (from key ending : ℕ) → AreInOrder blocks → ((d : Block) → from < length blocks → key < (get_or blocks from d).key) → have_parts (drop from blocks) key ending ≡ false
+pub parts-after : (blocks : List Block) (from key ending : ℕ) → KeysRise blocks → ((d : Block) → from < length blocks → key < (get_or blocks from d).key) → have_parts (drop from blocks) key ending ≡ false
 parts-after blocks from key ending up first = parts-absent (drop from blocks) key ending (λ k d below same.
     let size = length-drop from blocks in
     let is : get_or (drop from blocks) k d ≡ get_or blocks (from + k) d = get_or-drop from blocks k d in
@@ -100,7 +100,7 @@ parts-after blocks from key ending up first = parts-absent (drop from blocks) ke
     omega (arith, same))
 
 -- no block has the key
-pub parts-missing : (blocks : List Block) (next key ending : ℕ) → AreInOrder blocks → IsPassed blocks next key → ((d : Block) → next < length blocks → key < (get_or blocks next d).key)
+pub parts-missing : (blocks : List Block) (next key ending : ℕ) → KeysRise blocks → IsPassed blocks next key → ((d : Block) → next < length blocks → key < (get_or blocks next d).key)
     → have_parts blocks key ending ≡ false
 parts-missing blocks next key ending up passed first =
     parts-cut blocks next key ending ∙ or_from _ _ (parts-passed blocks next key ending passed) (parts-after blocks next key ending up first)
@@ -109,7 +109,7 @@ same_part : (block : Block) (key ending : ℕ) → block.key ≡ key → has_par
 same_part block key ending same = ap (λ b. b && has_bit block.endings ending) (eq-eqb block.key key same)
 
 -- the block at an index has the key
-pub parts-here : (blocks : List Block) (next key ending : ℕ) (d : Block) → AreInOrder blocks → IsPassed blocks next key → next < length blocks → (get_or blocks next d).key ≡ key
+pub parts-here : (blocks : List Block) (next key ending : ℕ) (d : Block) → KeysRise blocks → IsPassed blocks next key → next < length blocks → (get_or blocks next d).key ≡ key
     → have_parts blocks key ending ≡ has_bit (get_or blocks next d).endings ending
 parts-here blocks next key ending d up passed below same =
     parts-cut blocks next key ending
@@ -122,7 +122,7 @@ parts-here blocks next key ending d up passed below same =
     ∙ same_part (get_or blocks next d) key ending same
 
 -- where the search stops the key isn't there
-pub parts-stopped : (blocks : List Block) (next key ending : ℕ) (d : Block) → AreInOrder blocks → IsPassed blocks next key
+pub parts-stopped : (blocks : List Block) (next key ending : ℕ) (d : Block) → KeysRise blocks → IsPassed blocks next key
     → (next < length blocks → key ≤ (get_or blocks next d).key) → (next < length blocks → (get_or blocks next d).key ≢ key) → have_parts blocks key ending ≡ false
 parts-stopped blocks next key ending d up passed reached other = parts-missing blocks next key ending up passed (λ e below.
     let is : get_or blocks next d ≡ get_or blocks next e = get_or_default blocks next d e below in

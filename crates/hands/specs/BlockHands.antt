@@ -39,5 +39,5 @@ abbrev pub IsRising : List ℕ → Type 0
 IsRising xs = (i j : ℕ) → i < j → j < length xs → slice_index xs i < slice_index xs j
 
 -- the keys rise
-abbrev pub AreInOrder : List Block → Type 0
-AreInOrder blocks = IsRising (keys_of blocks)
+abbrev pub KeysRise : List Block → Type 0
+KeysRise blocks = IsRising (keys_of blocks)

@@ -2,7 +2,7 @@
 ghost use Rattle.std.specs.Prelude.{◌≡◌, ℕ, ◌<◌, ◌^◌, ◌||◌, All, IfOk, OnOk};
 ghost use Rattle.std.specs.List.{list_any};
 ghost use Rattle.lane_board.specs.Lanes.{has_bit};
-ghost use Rattle.hands.specs.BlockHands.{AreHands, AreInOrder, IsBlock, in_block, keys_of};
+ghost use Rattle.hands.specs.BlockHands.{AreHands, KeysRise, IsBlock, in_block, keys_of};
 ghost use Rattle.hands.specs.Blocks.{have_parts};
 ghost use Rattle.hands.specs.Numbers.{has_number};
 
@@ -15,7 +15,7 @@ use std::alloc::Global;
 #[derive(Drop)]
 pub struct HandSet {
     pub(crate) blocks: Vec<Block>,
-    ghost rises: { AreInOrder blocks.items },
+    ghost rises: { KeysRise blocks.items },
     ghost each: { All IsBlock blocks.items },
 }
 
@@ -23,7 +23,7 @@ pub struct HandSet {
 /// goes on to where it stands. Keys that rise are all found in one pass.
 #[inline(always)]
 pub(crate) fn endings_at(blocks: &[Block], next: &mut usize, key: u64) -> u64
-    requires { AreInOrder blocks.now }
+    requires { KeysRise blocks.now }
     ensures { (ending : ℕ) → has_bit result ending ≡ have_parts blocks.now key ending }
 {
     if blocks.len() < *next {

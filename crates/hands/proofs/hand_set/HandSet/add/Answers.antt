@@ -3,7 +3,7 @@ use Rattle.std.proofs.Common.{ℕ, ◌<◌, ◌-◌, ◌||◌, ap, ◌∙◌, le
 use Rattle.hands.specs.declared.block.Block.{Block}
 use Rattle.hands.specs.Blocks.{ending_of, have_parts, key_of}
 use Rattle.hands.specs.HandSets.{has}
-use Rattle.hands.proofs.AddSteps.{before-last, each-push, in_order-push, is_block, joined-each, joined-order, joined-parts, joins, low-before, none-in, where-refused}
+use Rattle.hands.proofs.AddSteps.{before-last, each-push, keys_rise-push, is_block, joined-each, joined-order, joined-parts, joins, low-before, none-in, where-refused}
 use Rattle.hands.proofs.BackLemmas.{or_false}
 use Rattle.hands.proofs.PartLemmas.{hands-push, parts-one}
 use Rattle.hands.proofs.hand_set.HandSet.add.Goals as goal
@@ -22,7 +22,7 @@ invariant_of-self c =
           low-before items (length items) (c.len-count.result - 1) c.args.block.key w.index.result.now c.args.self.now.rises (omega arith) (omega arith) (omega arith) w.index.ensures w.if-index-block.true k d below
     ] in
     record {
-      rises = in_order-push items _ c.args.block _ c.args.self.now.rises low c.push.ensures.items;
+      rises = keys_rise-push items _ c.args.block _ c.args.self.now.rises low c.push.ensures.items;
       each = each-push items _ c.args.block _ c.args.self.now.each (is_block c.args.block c.requires c.if-block-eq0.false) c.push.ensures.items;
     }
 

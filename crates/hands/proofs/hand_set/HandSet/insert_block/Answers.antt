@@ -3,7 +3,7 @@ use Rattle.std.proofs.Common.{ℕ, ◌<◌, ◌≤◌, ◌-◌, ◌||◌, ap, �
 use Rattle.hands.specs.declared.block.Block.{Block}
 use Rattle.hands.specs.Blocks.{ending_of, have_parts, key_of}
 use Rattle.hands.specs.HandSets.{has}
-use Rattle.hands.proofs.AddSteps.{above-all, at-last, each-insert, in_order-insert, joined-each, joined-order, joined-parts, joins, low-before, parts-insert, where-refused}
+use Rattle.hands.proofs.AddSteps.{above-all, at-last, each-insert, keys_rise-insert, joined-each, joined-order, joined-parts, joins, low-before, parts-insert, where-refused}
 use Rattle.hands.proofs.PartLemmas.{parts-one}
 use Rattle.hands.proofs.hand_set.HandSet.insert_block.Goals as goal
 use Rattle.hands.proofs.hand_set.HandSet.insert_block.Goals.{then-loop-index-test+else-index-block, else-loop-index-test}
@@ -44,7 +44,7 @@ invariant_of-self-2 c =
     ] in
     record {
       rises =
-          in_order-insert items _ index c.args.block _ c.args.self.now.rises within low
+          keys_rise-insert items _ index c.args.block _ c.args.self.now.rises within low
           (above-all items index c.args.block.key c.index-2.result.now c.args.self.now.rises c.loop-index.invariant c.index-2.ensures c.if-index-block-2.false) c.insert.ensures.items;
       each = each-insert items _ index c.args.block _ c.args.self.now.each c.requires.block c.insert.ensures.items;
     }

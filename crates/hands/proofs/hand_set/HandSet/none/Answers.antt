@@ -2,13 +2,13 @@
 use Rattle.std.proofs.Common.{length, ap, ◌∙◌}
 use Rattle.hands.specs.Blocks.{ending_of, key_of, have_parts}
 use Rattle.hands.specs.HandSets.{block_count, has}
-use Rattle.hands.proofs.OrderLemmas.{in_order-none, each-none}
+use Rattle.hands.proofs.OrderLemmas.{keys_rise-none, each-none}
 use Rattle.hands.proofs.PartLemmas.{parts-none}
 use Rattle.hands.proofs.hand_set.HandSet.none.Goals as goal
 
 pub invariant_of-result : goal.invariant_of-result
 invariant_of-result c = record {
-  rises = in_order-none _ c.new.ensures.items;
+  rises = keys_rise-none _ c.new.ensures.items;
   each = each-none _ c.new.ensures.items;
 }
 

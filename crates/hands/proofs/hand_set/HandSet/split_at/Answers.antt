@@ -2,10 +2,10 @@
 use Rattle.std.proofs.Common.{◌≡◌, ◌||◌, All, length, take, drop, ap, sym, subst, ◌∙◌, arith}
 use Rattle.std.proofs.lemmas.List.{length-drop, length-take}
 use Rattle.std.proofs.lemmas.List.Elements.{All-drop, All-take}
-use Rattle.hands.specs.BlockHands.{AreInOrder, IsBlock}
+use Rattle.hands.specs.BlockHands.{KeysRise, IsBlock}
 use Rattle.hands.specs.Blocks.{ending_of, have_parts, key_of}
 use Rattle.hands.specs.HandSets.{block_count, has}
-use Rattle.hands.proofs.OrderLemmas.{before-cut, behind-cut, in_order-drop, in_order-take}
+use Rattle.hands.proofs.OrderLemmas.{before-cut, behind-cut, keys_rise-drop, keys_rise-take}
 use Rattle.hands.proofs.PartLemmas.{parts-cut}
 use Rattle.hands.proofs.hand_set.HandSet.split_at.Goals as goal
 
@@ -13,7 +13,7 @@ pub invariant_of-result : goal.invariant_of-result
 invariant_of-result c =
     let blocks = c.args.self.now.blocks.items in
     let first : c.in_ok-first.first.items ≡ take c.args.count blocks = before-cut blocks c.as_slice-blocks.result.now c.in_ok-first.first.items c.args.count c.min-cut.result c.in_ok-first.ensures.items c.as_slice-blocks.ensures.value (omega (arith, c.min-cut.ensures, c.len.ensures)) in record {
-      rises = subst AreInOrder (sym first) (in_order-take blocks c.args.count c.args.self.now.rises);
+      rises = subst KeysRise (sym first) (keys_rise-take blocks c.args.count c.args.self.now.rises);
       each = subst (All IsBlock) (sym first) (All-take IsBlock c.args.count blocks c.args.self.now.each);
     }
 
@@ -21,7 +21,7 @@ pub invariant_of-result-2 : goal.invariant_of-result-2
 invariant_of-result-2 c =
     let blocks = c.args.self.now.blocks.items in
     let others : c.in_ok-others.others.items ≡ drop c.args.count blocks = behind-cut blocks c.as_slice-blocks.result.now c.in_ok-others.others.items c.args.count c.min-cut.result c.in_ok-others.ensures.items c.as_slice-blocks.ensures.value (omega (arith, c.min-cut.ensures, c.len.ensures)) in record {
-      rises = subst AreInOrder (sym others) (in_order-drop blocks c.args.count c.args.self.now.rises);
+      rises = subst KeysRise (sym others) (keys_rise-drop blocks c.args.count c.args.self.now.rises);
       each = subst (All IsBlock) (sym others) (All-drop IsBlock c.args.count blocks c.args.self.now.each);
     }
 

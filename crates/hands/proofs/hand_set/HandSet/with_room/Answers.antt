@@ -2,13 +2,13 @@
 use Rattle.std.proofs.Common.{ap, ◌∙◌}
 use Rattle.hands.specs.Blocks.{ending_of, key_of, have_parts}
 use Rattle.hands.specs.HandSets.{has}
-use Rattle.hands.proofs.OrderLemmas.{in_order-none, each-none}
+use Rattle.hands.proofs.OrderLemmas.{keys_rise-none, each-none}
 use Rattle.hands.proofs.PartLemmas.{parts-none}
 use Rattle.hands.proofs.hand_set.HandSet.with_room.Goals as goal
 
 pub invariant_of-result : goal.invariant_of-result
 invariant_of-result c = record {
-  rises = in_order-none _ c.in_ok-with_capacity.ensures.items;
+  rises = keys_rise-none _ c.in_ok-with_capacity.ensures.items;
   each = each-none _ c.in_ok-with_capacity.ensures.items;
 }
 
