@@ -19,7 +19,7 @@ use Rattle.well.specs.Lock.{locked, rows_removed, together}
 use Rattle.well.specs.LockLaws.{LiesBelow, is_below}
 use Rattle.moves.specs.declared.key.DropMode.{DropMode}
 use Rattle.hold_queue.specs.QueueSet.{QueuesInPlay, QueuesPermit, queues_in_play}
-use Rattle.hold_queue.specs.Supply.{supplies, supply_of}
+use Rattle.hold_queue.specs.Supply.{supplies, supply_in_play}
 use Rattle.hold_queue.proofs.CallerLemmas.{supply-enough}
 use Rattle.prune.specs.Tiling.{Supply, Tiling, supply_in}
 use Rattle.prune.specs.OnePart.{less_one}
@@ -35,7 +35,7 @@ use Rattle.enumerate.specs.Setups.{state_of}
 use Rattle.enumerate.specs.SearchState.{SearchState, after_of, can_be_tiled, is_live}
 use Rattle.problem.proofs.CallerLemmas.{IsLow, locked-low}
 use Rattle.moves.proofs.CallerLemmas.{place-free}
-use Rattle.empty_cells.specs.SupplyWords
+use Rattle.empty_cells.specs.SupplyWords.{supply_of}
 
 -- what plays clears all rows
 pub plays-clears : (table : Table) (mode : DropMode) (F : Field) (rows : ℕ) (s : List Placement) → Plays table mode F rows s → ClearsRows F rows s
@@ -54,13 +54,13 @@ pieces-counted s piece = sym (counted s)
 pub played-tiled : (n : SearchState) (s : List Placement) → IsLow n.field n.rows → Plays n.table n.mode n.field n.rows s → QueuesPermit n.line (n.line.played ++ pieces_of s) → can_be_tiled (length s) n ≡ true
 unfolding can_be_tiled
 played-tiled n s low plays permitted =
-    (tiling_decided n.field n.rows (supply_of n.line (length s))).1
-    (more_pieces n.field n.rows (kinds_placed s) (supply_of n.line (length s)) enough
+    (tiling_decided n.field n.rows (supply_in_play n.line (length s))).1
+    (more_pieces n.field n.rows (kinds_placed s) (supply_in_play n.line (length s)) enough
     (cleared_is_tiled n.field n.rows s low.within (record { none = low.none }) (plays-clears n.table n.mode n.field n.rows s plays)))
   where
-    enough : (piece : Piece) → kinds_placed s piece ≤ supply_of n.line (length s) piece
+    enough : (piece : Piece) → kinds_placed s piece ≤ supply_in_play n.line (length s) piece
     enough piece =
-        let most = subst (λ k. count_by (λ other. piece_code other == piece_code piece) (pieces_of s) ≤ supply_of n.line k piece) (length-map s (λ q. q.piece)) (supply-enough n.line (pieces_of s) piece permitted) in
+        let most = subst (λ k. count_by (λ other. piece_code other == piece_code piece) (pieces_of s) ≤ supply_in_play n.line k piece) (length-map s (λ q. q.piece)) (supply-enough n.line (pieces_of s) piece permitted) in
         omega (arith, pieces-counted s piece)
 
 -- what a placement leaves has a tiling, before its full rows go, exactly where it has one after
@@ -91,18 +91,18 @@ as_many : (left a c : ℕ) → min left (min (left + 1) (a - c)) ≡ min left (a
 as_many left a c = omega arith
 
 supply-next : (line : QueuesInPlay) (piece : Piece) (left : ℕ) (other : Piece) →
-    min left (less_one (supply_of line (left + 1)) piece other) ≡ supply_of (record line { played = line.played ++ piece ∷ [] }) left other
+    min left (less_one (supply_in_play line (left + 1)) piece other) ≡ supply_in_play (record line { played = line.played ++ piece ∷ [] }) left other
 unfolding less_one
 supply-next line piece left other =
     grind (arith, cases_Bool, cond-true, fewer, cond-false, as_many, sum_by-append, sum_by-cons)
 
 -- the supply of a setup, after one more piece
-pub supply-moves : (line : QueuesInPlay) (piece : Piece) (left : ℕ) (before after : Supply) → before ≡ supply_of line (left + 1) →
-    ((other : Piece) → after other ≡ min left (less_one before piece other)) → after ≡ supply_of (record line { played = line.played ++ piece ∷ [] }) left
+pub supply-moves : (line : QueuesInPlay) (piece : Piece) (left : ℕ) (before after : Supply) → before ≡ supply_in_play line (left + 1) →
+    ((other : Piece) → after other ≡ min left (less_one before piece other)) → after ≡ supply_in_play (record line { played = line.played ++ piece ∷ [] }) left
 supply-moves line piece left before after is moves = fun_ext (λ other. moves other ∙ ap (λ (s : Supply). min left (less_one s piece other)) is ∙ supply-next line piece left other)
 
 -- so whether a placement leads to a live state is told by what it leaves
-pub live-after : (table : Table) (mode : DropMode) (setup : Setup) (q : Placement) (supply : Supply) → ((other : Piece) → supply other ≡ min setup.left (less_one (SupplyWords.supply_of setup.supply) q.piece other)) →
+pub live-after : (table : Table) (mode : DropMode) (setup : Setup) (q : Placement) (supply : Supply) → ((other : Piece) → supply other ≡ min setup.left (less_one (supply_of setup.supply) q.piece other)) →
     (left : ℕ) → left + 1 ≡ setup.left → is_live left (after_of (state_of table mode setup) q) ≡ has_tiling (locked (filled setup.well) q) (setup.rows - rows_removed (filled setup.well) q) supply
 unfolding is_live can_be_tiled after_of state_of
 live-after table mode setup q supply moves left less = search (rules, (supply-moves (queues_in_play setup.line.queues) q.piece setup.left))
@@ -115,11 +115,11 @@ locked-below setup q well rows below free field is =
     record { none = λ x y above. ap (λ (F : Field). F x y) field ∙ low.none x y (omega (arith, is)) }
 
 -- the entries of a supply, read again
-pub supplies-read : (line : QueuesInPlay) (left : ℕ) → supply_in (supplies line left) ≡ supply_of line left
+pub supplies-read : (line : QueuesInPlay) (left : ℕ) → supply_in (supplies line left) ≡ supply_in_play line left
 unfolding supply_in
 supplies-read line left = fun_ext read
   where
-    read : (piece : Piece) → supply_in (supplies line left) piece ≡ supply_of line left piece
+    read : (piece : Piece) → supply_in (supplies line left) piece ≡ supply_in_play line left piece
     read I = refl
     read L = refl
     read O = refl

@@ -12,7 +12,7 @@ use Rattle.moves.specs.PlaceTest.{places_in}
 use Rattle.queue_pattern.specs.Grammar.{singles}
 use Rattle.queue_pattern.specs.Pattern.{elements_of}
 use Rattle.hold_queue.specs.QueueSet.{QueuesInPlay, queues_permit}
-use Rattle.hold_queue.specs.Supply.{supply_of}
+use Rattle.hold_queue.specs.Supply.{supply_in_play}
 use Rattle.empty_cells.specs.HasTiling.{has_tiling}
 use Rattle.problem.specs.declared.problem.Problem.{Problem}
 
@@ -47,7 +47,7 @@ places_at n piece = places_in n.table n.mode n.field piece
 
 -- the empty cells of the rows left have a tiling by what may still be played, with so many placements to come
 unfoldable pub can_be_tiled : ℕ → SearchState → Bool
-can_be_tiled left n = has_tiling n.field n.rows (supply_of n.line left)
+can_be_tiled left n = has_tiling n.field n.rows (supply_in_play n.line left)
 
 -- whether a state is worth a look, with so many placements to come after the next one
 unfoldable pub is_live : ℕ → SearchState → Bool

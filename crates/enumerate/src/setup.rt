@@ -5,9 +5,9 @@ ghost use Rattle.srs.specs.declared.piece.Piece.{Piece};
 ghost use Rattle.well.specs.Well.{filled};
 ghost use Rattle.well.specs.LockLaws.{LiesBelow};
 ghost use Rattle.hold_queue.specs.QueueSet.{queues_in_play};
-ghost use Rattle.hold_queue.specs.Supply.{supply_of};
+ghost use Rattle.hold_queue.specs.Supply.{supply_in_play};
 ghost use Rattle.empty_cells.specs.Empties.{empty_cells};
-ghost use Rattle.empty_cells.specs.SupplyWords;
+ghost use Rattle.empty_cells.specs.SupplyWords.{supply_of};
 
 use crate::line::Line;
 use empty_cells::{Empties, SupplyWord};
@@ -42,8 +42,7 @@ pub struct Setup {
     ghost few: { left ≤ 19 },
     ghost bounded: { LiesBelow (filled well) rows },
     ghost emptied: { empty_cells empties ≡ difference (rows_below rows) (filled well) },
-    ghost supplied: { SupplyWords.supply_of supply ≡ supply_of (queues_in_play line.queues) (left + 1) },
-    ghost limits: { (piece : Piece) → SupplyWords.supply_of limited piece
-        ≡ min left (SupplyWords.supply_of supply piece) },
-    ghost few_of_each: { (piece : Piece) → SupplyWords.supply_of supply piece ≤ most },
+    ghost supplied: { supply_of supply ≡ supply_in_play (queues_in_play line.queues) (left + 1) },
+    ghost limits: { (piece : Piece) → supply_of limited piece ≡ min left (supply_of supply piece) },
+    ghost few_of_each: { (piece : Piece) → supply_of supply piece ≤ most },
 }

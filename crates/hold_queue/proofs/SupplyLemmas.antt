@@ -13,7 +13,7 @@ use Rattle.queue_pattern.specs.Queues.{pieces_in, others, choices, queues}
 use Rattle.hold_queue.specs.declared.hold.Hold.{Hold}
 use Rattle.hold_queue.specs.Permits.{Way, plain, exchange, first_hold, last, Permits}
 use Rattle.hold_queue.specs.QueueSet.{QueuesInPlay, QueuesPermit}
-use Rattle.hold_queue.specs.Supply.{from_hold, supply_of}
+use Rattle.hold_queue.specs.Supply.{from_hold, supply_in_play}
 
 abbrev is : Piece → Piece → Bool
 is piece other = piece_code other == piece_code piece
@@ -102,7 +102,7 @@ permits-count kind hold [] queue held permitted = omega arith
 permits-count kind hold (piece ∷ pieces) queue held permitted =
     omega (arith, count-cons (is kind) piece pieces, way-count kind permitted.2, permits-count kind hold pieces permitted.0 permitted.1 permitted.3)
 
-pub supply-enough : (line : QueuesInPlay) (more : List Piece) (piece : Piece) → QueuesPermit line (line.played ++ more) → count_by (is piece) more ≤ supply_of line (length more) piece
+pub supply-enough : (line : QueuesInPlay) (more : List Piece) (piece : Piece) → QueuesPermit line (line.played ++ more) → count_by (is piece) more ≤ supply_in_play line (length more) piece
 supply-enough line more piece permitted =
     omega (
       arith,

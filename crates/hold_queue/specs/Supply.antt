@@ -14,12 +14,12 @@ from_hold _ _ piece = 0
 
 -- the smaller of the pieces left to play and of the elements whose set has this piece, with one that is held at the
 -- start, less those that were played
-abbrev pub supply_of : QueuesInPlay → ℕ → Piece → ℕ
-supply_of line left piece =
+abbrev pub supply_in_play : QueuesInPlay → ℕ → Piece → ℕ
+supply_in_play line left piece =
     min left (count_by (λ element. is_in piece element.set) line.elements
     + from_hold line.hold line.held piece
     - count_by (λ played. piece_code played == piece_code piece) line.played)
 
 -- the entries in the order of codes
 abbrev pub supplies : QueuesInPlay → ℕ → List ℕ
-supplies line left = map (supply_of line left) all_pieces
+supplies line left = map (supply_in_play line left) all_pieces

@@ -8,7 +8,7 @@ ghost use Rattle.hold_queue.specs.AtHand.{at_hand, Takes, taken_from};
 ghost use Rattle.hold_queue.specs.Permits.{Permits, permits};
 ghost use Rattle.hold_queue.specs.QueueSet.{QueuesInPlay, QueuesPermit, queues_permit};
 ghost use Rattle.hold_queue.specs.AtHand.{count_held};
-ghost use Rattle.hold_queue.specs.Supply.{supply_of};
+ghost use Rattle.hold_queue.specs.Supply.{supply_in_play};
 ghost use Rattle.queue_pattern.specs.Queues.{queue_len};
 
 /// A test decides what a queue permits, and what the queues of a pattern permit.
@@ -22,7 +22,7 @@ pub fn permits_is_decided()
 /// No permitted list that goes on by `left` pieces has more pieces of a kind than the supply.
 pub fn supply_is_enough()
     ensures { (line : QueuesInPlay) (more : List Piece) (piece : Piece) → QueuesPermit line (line.played ++ more) →
-        count_by (λ other. piece_code other == piece_code piece) more ≤ supply_of line (length more) piece }
+        count_by (λ other. piece_code other == piece_code piece) more ≤ supply_in_play line (length more) piece }
 {}
 
 /// A permitted list has at most as many pieces as the queue, and one more for the piece held at the start.

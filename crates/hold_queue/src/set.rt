@@ -40,7 +40,7 @@ impl QueueSet {
     ghost use Rattle.std.specs.Prelude.{[], ◌∷◌, ◌++◌};
     ghost use Rattle.queue_pattern.specs.Grammar.{singles};
     ghost use Rattle.hold_queue.specs.QueueSet.{queues_in_play, QueuesPermit, queues_permit};
-    ghost use Rattle.hold_queue.specs.Supply.{supplies, supply_of};
+    ghost use Rattle.hold_queue.specs.Supply.{supplies, supply_in_play};
 
     /// The queues of a pattern, with nothing played.
     pub fn start(pattern: &Pattern, hold: Hold, held: Option<Piece>) -> QueueSet
@@ -182,20 +182,20 @@ impl QueueSet {
         ensures { result ≡ supplies (queues_in_play self.now) left }
     {
         [
-            self.supply_of(Piece::I, left),
-            self.supply_of(Piece::L, left),
-            self.supply_of(Piece::O, left),
-            self.supply_of(Piece::Z, left),
-            self.supply_of(Piece::T, left),
-            self.supply_of(Piece::J, left),
-            self.supply_of(Piece::S, left),
+            self.supply_in_play(Piece::I, left),
+            self.supply_in_play(Piece::L, left),
+            self.supply_in_play(Piece::O, left),
+            self.supply_in_play(Piece::Z, left),
+            self.supply_in_play(Piece::T, left),
+            self.supply_in_play(Piece::J, left),
+            self.supply_in_play(Piece::S, left),
         ]
     }
 
     /// The supply of one kind.
     #[tactic(auto, unfolding(crate::specs::QueueSet::queues_in_play))]
-    fn supply_of(&self, piece: Piece, left: u8) -> u8
-        ensures { result ≡ supply_of (queues_in_play self.now) left piece }
+    fn supply_in_play(&self, piece: Piece, left: u8) -> u8
+        ensures { result ≡ supply_in_play (queues_in_play self.now) left piece }
     {
         let at_hand = elements_with(&self.pattern, piece)
             + from_hold(self.states.hold, self.held, piece);

@@ -113,7 +113,7 @@ fn greatest_counts(hands: &[u64], pieces: u8) -> Counts
 
 /// How many pieces there are of each kind, in the order of the kinds.
 #[inline(always)]
-pub fn supply_of(counts: &Counts) -> [u8; 7]
+pub fn supply_from(counts: &Counts) -> [u8; 7]
     ensures { supply_in result ≡ supply_by counts.now }
 {
     let [_, i, l, o, z, t, j, s] = *counts;
@@ -124,7 +124,7 @@ pub fn supply_of(counts: &Counts) -> [u8; 7]
 fn fills(tilings: &mut TilingStore, cells: &Empties, near: u8, counts: &Counts) -> bool
     ensures { IsTrue result ↔ Tiling (all_but (empty_cells cells.now)) 8 (supply_by counts.now) }
 {
-    tilings.has_tiling_near(cells, near, &supply_of(counts))
+    tilings.has_tiling_near(cells, near, &supply_from(counts))
 }
 
 impl FitMemory {

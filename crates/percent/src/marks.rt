@@ -19,7 +19,7 @@ ghost use Rattle.percent.specs.LeftOut.{LeavesOutBad};
 ghost use Rattle.percent.specs.Marks.{HasMarkAt, IsMarkOf, IsStanding, IsTrueMark};
 ghost use Rattle.percent.specs.Spread.{IsSpread};
 
-use crate::fitting::{Counts, FitMemory, are_same, counts_of, fitting, supply_of};
+use crate::fitting::{Counts, FitMemory, are_same, counts_of, fitting, supply_from};
 use crate::game::Game;
 use crate::position::{Child, Position};
 use empty_cells::Empties;
@@ -93,7 +93,7 @@ fn listed(
 ) -> Option<Mark>
     ensures { IfSome result (IsTrueMark (empty_cells cells.now)) }
 {
-    let tilings = lister.ordered_tilings(alloc, cells, &supply_of(&counts), most)?;
+    let tilings = lister.ordered_tilings(alloc, cells, &supply_from(&counts), most)?;
     Some(Mark { counts, tilings })
 }
 

@@ -1,7 +1,7 @@
 -- The first frame stands for the first state.
 use Rattle.std.proofs.Common.{sym, ap, ◌+◌, ◌∙◌, arith, rules}
 use Rattle.hold_queue.specs.QueueSet.{queues_in_play}
-use Rattle.hold_queue.specs.Supply.{supply_of}
+use Rattle.hold_queue.specs.Supply.{supply_in_play}
 use Rattle.prune.specs.Tiling.{supply_in}
 use Rattle.enumerate.specs.Setups.{state_of}
 use Rattle.problem.proofs.CallerLemmas.{filled-low}
@@ -15,7 +15,7 @@ invariant_of-setup-clause-bounded c = record { none = (filled-low c.args.problem
 
 pub invariant_of-setup-clause-supplied : goal.invariant_of-setup-clause-supplied
 invariant_of-setup-clause-supplied c = c.new-supply.ensures ∙ ap supply_in c.supply.ensures ∙ supplies-read (queues_in_play c.match-queue.queues) (c.saturating_sub-left.result + 1)
-    ∙ ap (λ set. supply_of (queues_in_play set) (c.saturating_sub-left.result + 1)) (sym c.of-line.ensures)
+    ∙ ap (λ set. supply_in_play (queues_in_play set) (c.saturating_sub-left.result + 1)) (sym c.of-line.ensures)
 
 pub returns-clause-state : goal.returns-clause-state
 unfolding state_of

@@ -7,5 +7,5 @@ use Rattle.percent.proofs.marks.listed.Goals as goal
 
 pub returns : goal.returns
 returns c = record {
-  each = λ none. none (subst (λ (supply : Supply). ListsOrdered (empty_cells c.args.cells.now) supply c.in_ok-tilings.tilings.tilings.items) c.supply_of.ensures c.in_ok-tilings.ensures.all);
+  each = λ none. none (subst (λ (supply : Supply). ListsOrdered (empty_cells c.args.cells.now) supply c.in_ok-tilings.tilings.tilings.items) c.supply_from.ensures c.in_ok-tilings.ensures.all);
 }

@@ -4,10 +4,10 @@ use Rattle.srs.specs.declared.piece.Piece.{Piece}
 use Rattle.well.specs.Well.{filled}
 use Rattle.well.proofs.CallerLemmas.{locked-by, removed-by}
 use Rattle.hold_queue.specs.QueueSet.{queues_in_play}
-use Rattle.hold_queue.specs.Supply.{supply_of}
+use Rattle.hold_queue.specs.Supply.{supply_in_play}
 use Rattle.prune.specs.Tiling.{Supply}
 use Rattle.prune.specs.OnePart.{less_one}
-use Rattle.empty_cells.specs.SupplyWords
+use Rattle.empty_cells.specs.SupplyWords.{supply_of}
 use Rattle.enumerate.proofs.PlaceLaws.{lockable_free}
 use Rattle.enumerate.proofs.TilingLaws.{locked-below, supply-moves}
 use Rattle.enumerate.proofs.TryLemmas.{child-state}
@@ -33,12 +33,12 @@ pub invariant_of-child-clause-supplied : goal.invariant_of-child-clause-supplied
 invariant_of-child-clause-supplied c =
     let setup = c.args.self.now in
     let left : setup.left ≡ setup.left - 1 + 1 = omega (arith, c.requires.some) in
-    supply-moves (queues_in_play setup.line.queues) c.args.placement.now.piece setup.left (SupplyWords.supply_of setup.supply) (SupplyWords.supply_of c.args.next_supply.now.supply) setup.supplied c.requires.supplied.supplied
-    ∙ (λ i. supply_of (sym c.follow.ensures i) (left i))
+    supply-moves (queues_in_play setup.line.queues) c.args.placement.now.piece setup.left (supply_of setup.supply) (supply_of c.args.next_supply.now.supply) setup.supplied c.requires.supplied.supplied
+    ∙ (λ i. supply_in_play (sym c.follow.ensures i) (left i))
 
 pub invariant_of-child-clause-few_of_each : goal.invariant_of-child-clause-few_of_each
 invariant_of-child-clause-few_of_each c = λ other.
-    few_left (SupplyWords.supply_of c.args.self.now.supply) c.args.self.now.left c.args.self.now.most c.args.placement.now.piece other _ (c.requires.supplied.supplied other) (c.args.self.now.few_of_each other)
+    few_left (supply_of c.args.self.now.supply) c.args.self.now.left c.args.self.now.most c.args.placement.now.piece other _ (c.requires.supplied.supplied other) (c.args.self.now.few_of_each other)
 
 pub returns-clause-state : goal.returns-clause-state
 returns-clause-state c = search (rules, locked-by, removed-by, child-state)
