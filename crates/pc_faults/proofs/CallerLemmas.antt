@@ -10,7 +10,7 @@ pub first_stops : (one : Option Fault) (rest : List (Option Fault)) (f : Fault) 
 first_stops one rest f is = rw (is) refl
 
 -- it does not, and what comes after it is left
-pub first_passes : (one : Option Fault) (rest : List (Option Fault)) → one ≡ None → first_of_these (one ∷ rest) ≡ first_of_these rest
+first_passes : (one : Option Fault) (rest : List (Option Fault)) → one ≡ None → first_of_these (one ∷ rest) ≡ first_of_these rest
 first_passes one rest none = rw (none) refl
 
 pub first_alone : (one : Option Fault) → first_of_these (one ∷ []) ≡ one

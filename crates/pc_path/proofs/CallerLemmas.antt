@@ -2,4 +2,4 @@
 pub use Rattle.pc_path.proofs.OneOutput.{one_path_output, shared_path_output}
 pub use Rattle.pc_path.proofs.PathAnswers.{inner_path}
 pub use Rattle.pc_path.proofs.Reports.{next_plays}
-pub use Rattle.pc_path.proofs.Searching.{all_pairs, drop_next, drop_over, goes_on, not_begun, take_next, within_next}
+pub use Rattle.pc_path.proofs.Searching.{drop_next, goes_on, take_next, within_next}

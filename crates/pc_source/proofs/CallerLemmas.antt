@@ -1,9 +1,7 @@
--- What crates above cite: faults of texts, fields, problems, and what calls answer and add to the counter of floods.
-use Rattle.std.proofs.Common.{◌≡◌, ◌≢◌, ◌∙◌, ℕ, ◌-◌, ◌<◌, ◌≤◌, length, List, Bool, true, false, Option, Some, None, Result, Ok, Err, refl, sym, subst, ap, arith, inl, inr}
+-- What crates above cite: faults of texts and problems, and what calls answer and add to the counter of floods.
+use Rattle.std.proofs.Common.{◌≡◌, ◌≢◌, ℕ, ◌-◌, ◌<◌, ◌≤◌, length, List, false, Option, Some, None, Result, Ok, Err, refl, sym, subst, arith, inl, inr}
 use Rattle.std.proofs.lemmas.Bool.{lt-ltb, le-ltb}
-use Rattle.lane_board.specs.Field.{Field}
 use Rattle.fumen_digits.specs.Framing.{digits_in}
-use Rattle.fumen_text.specs.Reading.{text_pages}
 use Rattle.fumen_pages.specs.declared.page.Page.{Page}
 use Rattle.line_writing.specs.declared.write_fault.WriteFault.{WriteFault}
 use Rattle.line_writing.specs.declared.write_fault.WriteFault.TheVariants as line
@@ -18,16 +16,12 @@ use Rattle.pc_faults.specs.declared.status.Status.TheVariants.{Done, Input, Sour
 use Rattle.pc_faults.specs.declared.fault.Fault.TheVariants.{SourceTooLong}
 use Rattle.pc_faults.proofs.CallerLemmas.{second_left}
 use Rattle.pc_faults.specs.Codes.{line_status, refused_status, written_status}
-use Rattle.pc_settings.specs.Request.{FieldText, fumen_text, rows_text}
 use Rattle.pc_source.specs.Statuses.{IsAnswered}
-use Rattle.pc_source.specs.Faults.{cells_asked, cells_read, field_fault, text_fault}
-use Rattle.pc_source.specs.FieldText.{DashText, IsFieldOf, IsFumenField, field_needs, is_dash, itself, of_source, text_given}
 use Rattle.pc_source.specs.Had.{HasText, IsRefusedInput}
 use Rattle.pc_source.specs.Sink.{SinkChange}
-use Rattle.pc_source.specs.Task.{Needs, Task, first_fault, is_source, memory, most_bytes, nothing, source_bytes, source_fault}
+use Rattle.pc_source.specs.Task.{Needs, Task, first_fault, memory, most_bytes, nothing, source_bytes, source_fault}
 use Rattle.pc_source.specs.Work.{Works}
-pub use Rattle.pc_source.proofs.FieldLaws.{field_cells, one_field}
-pub use Rattle.pc_source.proofs.InnerFaults.{inner_field, inner_full_row, inner_pattern, inner_problem, inner_text}
+pub use Rattle.pc_source.proofs.InnerFaults.{inner_full_row, inner_pattern, inner_problem, inner_text}
 pub use Rattle.pc_source.proofs.SameProblems.{same_elements, same_table}
 pub use Rattle.pc_source.proofs.TextFaults.{text_faulty, text_page, text_reads, text_refused}
 
@@ -50,16 +44,6 @@ wants_memory refused.NoMemory status same none = refl
 -- a text that reads as pages has a prefix
 pub has_prefix : (text : List ℕ) (pages : List Page) → HasText text pages → digits_in text ≢ None
 has_prefix text pages has none = let framed = has.reads.framed in cc
-
-refusal_works : (task : Task) (fault : Option Fault) (bytes : List ℕ) (sink : SinkChange) (floods : ℕ) (r : Refused Fault) → floods ≡ 0 → Works task fault bytes sink floods (refused_status r)
-refusal_works task fault bytes sink floods (refused.Fault f) none = none
-refusal_works task fault bytes sink floods refused.NoMemory none = inl none
-
--- a call was refused, and no flood was made
-pub refused_works : (task : Task) (fault : Option Fault) (bytes : List ℕ) (sink : SinkChange) (floods : ℕ) (r : Refused Fault) (status : Status) → status ≡ refused_status r → floods ≡ 0
-    → Works task fault bytes sink floods status
-refused_works task fault bytes sink floods r status same none =
-    subst (Works task fault bytes sink floods) (sym same) (refusal_works task fault bytes sink floods r none)
 
 writing_answers : {T E : Type 0} (task : Task) (bytes output : List ℕ) (sink : SinkChange) (Kept : Type 0) (floods : ℕ) (result : Result T E) → task.fault bytes ≡ None → task.IsOutput bytes floods output
     → WritesAll sink.held sink.holds result output → HasCause sink.alone sink.before sink.now result → IsAnswered task bytes sink Kept floods (written_status result)
@@ -95,18 +79,6 @@ pub last_line_answers : {T : Type 0} (task : Task) (bytes output : List ℕ) (si
 last_line_answers task bytes output sink Kept floods result status same none is written cause later =
     subst (IsAnswered task bytes sink Kept floods) (sym same) (line_answers task bytes output sink Kept floods result none is written cause later)
 
-writing_works : {T E : Type 0} (task : Task) (fault : Option Fault) (bytes : List ℕ) (sink : SinkChange) (floods : ℕ) (result : Result T E)
-    → ((all : T) → result ≡ Ok all → task.IsWork bytes sink Done floods) → ((failed : E) → result ≡ Err failed → task.IsWork bytes sink SinkFault floods)
-    → Works task fault bytes sink floods (written_status result)
-writing_works task fault bytes sink floods (Ok all) done failed = done all refl
-writing_works task fault bytes sink floods (Err e) done failed = failed e refl
-
-pub written_works : {T E : Type 0} (task : Task) (fault : Option Fault) (bytes : List ℕ) (sink : SinkChange) (floods : ℕ) (result : Result T E) (status : Status) → status ≡ written_status result
-    → ((all : T) → result ≡ Ok all → task.IsWork bytes sink Done floods) → ((failed : E) → result ≡ Err failed → task.IsWork bytes sink SinkFault floods)
-    → Works task fault bytes sink floods status
-written_works task fault bytes sink floods result status same done failed =
-    subst (Works task fault bytes sink floods) (sym same) (writing_works task fault bytes sink floods result done failed)
-
 -- no flood was made, by a command whose work may be none
 pub idle_works : (task : Task) (fault : Option Fault) (bytes : List ℕ) (sink : SinkChange) (floods : ℕ) → ((status : Status) → task.IsWork bytes sink status 0) → floods ≡ 0 → (status : Status)
     → Works task fault bytes sink floods status
@@ -141,28 +113,3 @@ fits source_bytes bytes within = rw (le-ltb most_bytes (length bytes) within) re
 pub not_too_long : (task : Task) (bytes : List ℕ) → length bytes ≤ most_bytes → first_fault task bytes ≡ task.fault bytes
 unfolding first_fault
 not_too_long task bytes within = second_left (source_fault task.needs bytes) (task.fault bytes) (fits task.needs bytes within)
-
--- the text of a word that isn't the source's
-own_word : (word : List ℕ) (meant : DashText) → is_source (field_needs (fumen_text word)) ≡ false → text_given word meant ≡ word
-own_word word itself own = refl
-own_word word (of_source bytes) own = by (is_dash word) refl own where
-  by : (b : Bool) → is_dash word ≡ b → is_source (field_needs (fumen_text word)) ≡ false → text_given word (of_source bytes) ≡ word
-  by true is own = let h : is_source (field_needs (fumen_text word)) ≡ true = rw (is) refl in cc
-  by false is own = rw (is) refl
-
-own_text : (word : List ℕ) (one other : DashText) → is_source (field_needs (fumen_text word)) ≡ false → text_given word one ≡ text_given word other
-own_text word one other own = own_word word one own ∙ sym (own_word word other own)
-
--- where the field is not that of the source, what `-` stands for does not matter
-module _ (number : ℕ) (one other : DashText) where
-  pub fault_unread : (field : FieldText) → is_source (field_needs field) ≡ false → field_fault field number one ≡ field_fault field number other
-  fault_unread (rows_text text) own = refl
-  fault_unread (fumen_text word) own = ap (text_fault (Some number)) (own_text word one other own)
-
-  pub cells_unread : (field : FieldText) → is_source (field_needs field) ≡ false → cells_asked field number one ≡ cells_asked field number other
-  cells_unread (rows_text text) own = refl
-  cells_unread (fumen_text word) own = ap (λ t. cells_read number (text_pages t)) (own_text word one other own)
-
-  pub field_unread : (field : FieldText) (F : Field) → is_source (field_needs field) ≡ false → IsFieldOf field number one F → IsFieldOf field number other F
-  field_unread (rows_text text) F own is = is
-  field_unread (fumen_text word) F own is = subst (λ t. IsFumenField t number F) (own_text word one other own) is
