@@ -4,7 +4,7 @@ use Rattle.std.specs.Prelude.{IfErr, OnErr}
 use Rattle.pc_settings.specs.Request.{PercentRequest}
 use Rattle.pc_source.specs.FieldText.{field_needs}
 use Rattle.pc_source.specs.Task.{is_source, most_bytes}
-use Rattle.pc_percent.specs.Faults.{percent_fault}
+use Rattle.pc_percent.specs.PercentTask.{percent_fault}
 use Rattle.pc_words.specs.Request.{percent}
 use Rattle.pc_words.specs.Words.{asked_in, request_in}
 use Rattle.pc_good_queues.specs.declared.answer.NoBits.{NoBits}

@@ -6,7 +6,7 @@ use Rattle.pc_settings.specs.Request.{PathRequest}
 use Rattle.pc_source.specs.FieldText.{field_needs}
 use Rattle.pc_source.specs.Task.{is_source, most_bytes}
 use Rattle.pc_source.proofs.CallerLemmas.{none_added}
-use Rattle.pc_path.specs.Faults.{path_fault}
+use Rattle.pc_path.specs.PathTask.{path_fault}
 use Rattle.pc_words.specs.Request.{path}
 use Rattle.pc_words.specs.Words.{asked_in, request_in}
 use Rattle.pc_solutions.specs.declared.list.Written.{Written}

@@ -14,8 +14,8 @@ use Rattle.pc_source.specs.FieldTask.{its_field}
 use Rattle.pc_source.proofs.FieldTasks.{inner_of_field}
 use Rattle.pc_source.specs.ProblemFaults.{full_row_fault, pattern_fault}
 use Rattle.pc_source.proofs.CallerLemmas.{inner_full_row, inner_pattern}
-use Rattle.pc_combo.specs.ComboTask.{run_task}
-use Rattle.pc_combo.specs.Faults.{combo_fault, count_fault, one_queue, run_fault}
+use Rattle.pc_combo.specs.ComboTask.{combo_task, run_task}
+use Rattle.pc_combo.specs.Faults.{count_fault, one_queue, run_fault}
 
 inner_count : (count : ℕ) → IsInner (one_queue count)
 inner_count count = inner_test (not (count == 1)) (faults.NotOneQueue count) refl
@@ -31,5 +31,5 @@ inner_run request F =
     inner_first (full_row_fault F) (pattern_fault read ∷ count_fault read ∷ []) (inner_full_row F)
     (inner_first (pattern_fault read) (count_fault read ∷ []) (inner_pattern read) (inner_first (count_fault read) [] (inner_queues read) tt))
 
-pub inner_combo : (request : ComboRequest) (bytes : List ℕ) → IsInner (combo_fault request bytes)
+pub inner_combo : (request : ComboRequest) (bytes : List ℕ) → IsInner ((combo_task request).fault bytes)
 inner_combo request bytes = inner_of_field its_field request.field request.page true (run_task request) bytes (λ F. inner_run request F)

@@ -1,4 +1,5 @@
--- The first fault of `combo`: that of its field, then a full row, then of the pattern, and that it has not one queue.
+-- The first fault of what `combo` asks about its field: a full row, then that of the pattern, and then that it has not
+-- one queue.
 use Rattle.std.specs.Prelude.{ℕ, not, ◌==◌, if◌then◌else◌, List, [], ◌∷◌, length, Option, Some, None, Result, Ok, Err}
 use Rattle.lane_board.specs.Field.{Field}
 use Rattle.queue_pattern.specs.declared.element.Element.{Element}
@@ -8,7 +9,6 @@ use Rattle.queue_pattern.specs.Queues.{queues}
 use Rattle.pc_faults.specs.declared.fault.Fault.{Fault}
 use Rattle.pc_faults.specs.declared.fault.Fault.TheVariants as faults
 use Rattle.pc_faults.specs.FirstFault.{first_of_these}
-use Rattle.pc_source.specs.FieldTask.{fault_by_field, its_field}
 use Rattle.pc_source.specs.ProblemFaults.{full_row_fault, pattern_fault}
 use Rattle.pc_settings.specs.Request.{ComboRequest}
 
@@ -26,7 +26,3 @@ run_fault request F = first_of_these (
     ∷ pattern_fault (limited (elements request.patterns))
     ∷ count_fault (limited (elements request.patterns))
     ∷ [])
-
--- the text of the field, and then what is asked about the field
-abbrev pub combo_fault : ComboRequest → List ℕ → Option Fault
-combo_fault request = fault_by_field its_field request.field request.page (λ F bytes. run_fault request F)

@@ -31,7 +31,7 @@ use Rattle.pc_source.proofs.FieldFaults.{request_first}
 use Rattle.pc_source.proofs.FieldTasks.{field_had, inner_of_field}
 use Rattle.pc_cover.specs.CoverTask.{cover_task, covering_task}
 use Rattle.pc_cover.specs.LineStatus.{status_of_lines}
-use Rattle.pc_cover.specs.Faults.{cover_fault, covering_fault, given_fault}
+use Rattle.pc_cover.specs.Faults.{covering_fault, given_fault}
 use Rattle.pc_cover.specs.Given.{Given, given_in}
 use Rattle.pc_cover.specs.Sequences.{listed_placements}
 use Rattle.pc_cover.specs.Work.{IsCoveringWork}
@@ -63,7 +63,7 @@ inner_covering : (request : FieldRequest) (F : Field) (bytes : List ℕ) → IsI
 unfolding covering_fault
 inner_covering request F bytes = search (rules, inner_first, inner_problem, inner_given)
 
-pub inner_cover : (request : FieldRequest) (bytes : List ℕ) → IsInner (cover_fault request bytes)
+pub inner_cover : (request : FieldRequest) (bytes : List ℕ) → IsInner ((cover_task request).fault bytes)
 inner_cover request bytes = inner_of_field its_rest request.field request.page true (covering_task request) bytes (λ F. inner_covering request F bytes)
 
 -- the lines are refused
@@ -84,7 +84,7 @@ module _ (request : FieldRequest) (bytes : List ℕ) (sink : SinkChange) (Kept :
   pub problem_refused : (r : Refused Fault) (status : Status) → status ≡ refused_status r → Kept → now ≡ before → IsRefusedInput (request_fault request itself) r → CommandEnds (cover_task request) bytes sink Kept before now status
   problem_refused r status same kept idle is =
       ends_refused (cover_task request) bytes sink Kept before now r status same kept idle (λ _. reads-something)
-      (refusal_before (request_fault request itself) (cover_fault request bytes) r (request_first its_rest request (covering_fault request) bytes (λ F. problem_first request F bytes)) is)
+      (refusal_before (request_fault request itself) ((cover_task request).fault bytes) r (request_first its_rest request (covering_fault request) bytes (λ F. problem_first request F bytes)) is)
 
   -- it is had, and the run ends as what is asked about its field
   pub cover_ends : (problem : Problem) → HasProblem request itself problem → (status : Status) → CommandEnds (covering_task request (filled problem.well)) bytes sink Kept before now status

@@ -1,5 +1,4 @@
--- The first fault of `cover`: that of its field, then of what is asked about the field, then of the lines of the
--- source.
+-- The first fault of what `cover` asks about its field: that of the problem, and then that of the lines of the source.
 use Rattle.std.specs.Prelude.{ℕ, ◌/◌, List, [], ◌∷◌, Option, Some, None, Ok, Err}
 use Rattle.lane_board.specs.Field.{Field}
 use Rattle.well.specs.Counts.{empties_below}
@@ -7,7 +6,6 @@ use Rattle.pc_faults.specs.declared.fault.Fault.{Fault}
 use Rattle.pc_faults.specs.declared.fault.Fault.TheVariants as faults
 use Rattle.pc_faults.specs.FirstFault.{first_of_these}
 use Rattle.pc_settings.specs.Request.{FieldRequest}
-use Rattle.pc_source.specs.FieldTask.{fault_by_field, its_rest}
 use Rattle.pc_source.specs.ProblemFaults.{problem_fault}
 use Rattle.pc_cover.specs.Given.{Given, given_in}
 
@@ -21,7 +19,3 @@ covering_fault request F bytes = first_of_these (
     problem_fault request F
     ∷ given_fault (given_in (empties_below F request.height / 4) bytes)
     ∷ [])
-
--- The text of the field, and then what is asked about the field. In `cover` the word `-` is a fumen text like others.
-abbrev pub cover_fault : FieldRequest → List ℕ → Option Fault
-cover_fault request = fault_by_field its_rest request.field request.page (covering_fault request)

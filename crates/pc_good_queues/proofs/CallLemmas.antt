@@ -15,7 +15,7 @@ use Rattle.pc_source.specs.FieldText.{field_needs, of_source}
 use Rattle.pc_source.specs.Task.{nothing}
 use Rattle.pc_source.specs.Had.{HasProblem, IsRefusedInput}
 use Rattle.pc_source.proofs.FieldFaults.{no_request_fault}
-use Rattle.pc_percent.specs.Faults.{percent_fault}
+use Rattle.pc_percent.specs.PercentTask.{percent_fault}
 use Rattle.pc_good_queues.specs.Bits.{AreBitsOf, bytes_for}
 use Rattle.pc_good_queues.specs.Flags.{flags_of}
 use Rattle.pc_good_queues.specs.GoodQueues.{AreGoodQueues}

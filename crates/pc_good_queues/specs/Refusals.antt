@@ -6,7 +6,7 @@ use Rattle.pc_settings.specs.Request.{FieldRequest, PercentRequest}
 use Rattle.pc_source.specs.FieldText.{field_needs}
 use Rattle.pc_source.specs.Task.{nothing}
 use Rattle.pc_source.specs.ProblemFaults.{elements_asked}
-use Rattle.pc_percent.specs.Faults.{percent_fault}
+use Rattle.pc_percent.specs.PercentTask.{percent_fault}
 use Rattle.pc_good_queues.specs.declared.answer.NoBits.{NoBits}
 use Rattle.pc_good_queues.specs.declared.answer.NoBits.TheVariants.{Fault, NoRoom, NoMemory}
 use Rattle.pc_good_queues.specs.Bits.{bytes_for}

@@ -1,6 +1,6 @@
 // The call: the problem, the room, the answers for all queues, and then their bits.
 ghost use Rattle.std.specs.Prelude.{◌≡◌, ◌-◌, ◌≤◌, IfOk, IfErr, OnOk, OnErr, None, length, take, drop};
-ghost use Rattle.pc_percent.specs.Faults.{percent_fault};
+ghost use Rattle.pc_percent.specs.PercentTask.{percent_fault};
 ghost use Rattle.pc_settings.specs.Request.{IsInRange};
 ghost use Rattle.pc_settings.specs.Views.{percent_view};
 ghost use Rattle.pc_good_queues.specs.Bits;

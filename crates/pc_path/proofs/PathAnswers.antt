@@ -20,9 +20,9 @@ use Rattle.pc_source.specs.Task.{is_source}
 use Rattle.pc_source.specs.FieldTask.{fault_after_field, its_field}
 use Rattle.pc_source.proofs.CallerLemmas.{inner_problem}
 use Rattle.pc_source.proofs.FieldTasks.{field_had, inner_of_field}
-use Rattle.pc_path.specs.Faults.{after_fault, listing_fault, path_fault}
+use Rattle.pc_path.specs.Faults.{after_fault, listing_fault}
 use Rattle.pc_path.specs.Formats.{takes_memory_first}
-use Rattle.pc_path.specs.PathTask.{listing_task, path_task}
+use Rattle.pc_path.specs.PathTask.{listing_task, path_fault, path_task}
 
 -- that of the problem comes first
 pub problem_first : (request : PathRequest) (F : Field) (f : Fault) → problem_fault request.common F ≡ Some f → listing_fault request F ≡ Some f

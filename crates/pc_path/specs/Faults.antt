@@ -1,4 +1,4 @@
--- The first fault of `path`: that of its field, then of what is asked about the field, then of the given sequence.
+-- The first fault of what `path` asks about its field: that of the problem, and then that of the given sequence.
 use Rattle.std.specs.Prelude.{ℕ, ◌/◌, List, [], ◌∷◌, Option, Some, None, Result, Ok, Err}
 use Rattle.lane_board.specs.Field.{Field}
 use Rattle.srs.specs.declared.placement.Placement.{Placement}
@@ -7,7 +7,6 @@ use Rattle.sequence_text.specs.Reading.{sequence_in}
 use Rattle.pc_faults.specs.declared.fault.Fault.{Fault}
 use Rattle.pc_faults.specs.declared.fault.Fault.TheVariants as faults
 use Rattle.pc_faults.specs.FirstFault.{first_of_these}
-use Rattle.pc_source.specs.FieldTask.{fault_by_field, its_field}
 use Rattle.pc_source.specs.ProblemFaults.{problem_fault}
 use Rattle.pc_settings.specs.Request.{PathRequest}
 
@@ -27,8 +26,3 @@ listing_fault request F = first_of_these (
     problem_fault request.common F
     ∷ after_fault (empties_below F request.common.height / 4) request.after
     ∷ [])
-
--- the text of the field, and then what is asked about the field
-abbrev pub path_fault : PathRequest → List ℕ → Option Fault
-path_fault request =
-    fault_by_field its_field request.common.field request.common.page (λ F bytes. listing_fault request F)

@@ -12,8 +12,8 @@ ghost use Rattle.pc_settings.specs.Request.{PathRequest};
 ghost use Rattle.pc_faults.specs.declared.fault.Fault.TheVariants.{BadAfter};
 ghost use Rattle.pc_source.specs.FieldText.{field_needs};
 ghost use Rattle.pc_source.specs.Task.{is_source};
-ghost use Rattle.pc_path.specs.Faults.{after_fault, path_fault};
-ghost use Rattle.pc_path.specs.PathTask.{path_task};
+ghost use Rattle.pc_path.specs.Faults.{after_fault};
+ghost use Rattle.pc_path.specs.PathTask.{path_fault, path_task};
 
 /// The output of `path` depends only on its words, on the bytes of the source if it reads it, and with `--stats yes` on
 /// the number of floods.

@@ -11,8 +11,9 @@ ghost use Rattle.pc_settings.specs.Views.{path_view};
 ghost use Rattle.pc_source.specs.FieldText.{field_needs, of_source};
 ghost use Rattle.pc_source.specs.Had.{HasProblem, IsRefusedInput};
 ghost use Rattle.pc_source.specs.Task.{nothing};
-ghost use Rattle.pc_path.specs.Faults.{after_fault, listing_fault, path_fault};
+ghost use Rattle.pc_path.specs.Faults.{after_fault, listing_fault};
 ghost use Rattle.pc_path.specs.Output.{IsGiven};
+ghost use Rattle.pc_path.specs.PathTask.{path_fault};
 
 use pc_faults::Fault;
 use pc_outside::Refused;

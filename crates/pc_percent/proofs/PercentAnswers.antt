@@ -13,8 +13,7 @@ use Rattle.pc_source.specs.Had.{HasProblem}
 use Rattle.pc_source.specs.Sink.{SinkChange}
 use Rattle.pc_source.proofs.CallerLemmas.{inner_problem}
 use Rattle.pc_source.proofs.FieldTasks.{field_had, inner_of_field}
-use Rattle.pc_percent.specs.Faults.{percent_fault}
-use Rattle.pc_percent.specs.PercentTask.{asked_task, percent_task}
+use Rattle.pc_percent.specs.PercentTask.{asked_task, percent_fault, percent_task}
 
 -- it ends as what is asked about the field of the problem
 pub percent_ends : (request : PercentRequest) (bytes : List ℕ) (sink : SinkChange) (Kept : Type 0) (before now : ℕ) (problem : Problem) → HasProblem request.common (of_source bytes) problem

@@ -1,6 +1,7 @@
 -- What `percent` does: it answers what is asked about its field.
-use Rattle.std.specs.Prelude.{true}
+use Rattle.std.specs.Prelude.{ℕ, true, List, Option}
 use Rattle.lane_board.specs.Field.{Field}
+use Rattle.pc_faults.specs.declared.fault.Fault.{Fault}
 use Rattle.pc_settings.specs.Request.{PercentRequest}
 use Rattle.pc_source.specs.FieldTask.{field_task, its_field}
 use Rattle.pc_source.specs.Task.{Task, nothing}
@@ -21,3 +22,7 @@ asked_task request F = record {
 abbrev pub percent_task : PercentRequest → Task
 percent_task request =
     field_task its_field request.common.field request.common.page true (asked_task request)
+
+-- the first fault: that of the text of the field, and then that of the problem
+abbrev pub percent_fault : PercentRequest → List ℕ → Option Fault
+percent_fault request = (percent_task request).fault

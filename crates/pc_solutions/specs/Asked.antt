@@ -8,8 +8,8 @@ use Rattle.problem.specs.Problem.{needed_of}
 use Rattle.pc_source.specs.FieldText.{IsFieldOf, of_source}
 use Rattle.pc_source.specs.Problem.{IsProblemOf}
 use Rattle.pc_settings.specs.Request.{PathRequest}
-use Rattle.pc_path.specs.Faults.{path_fault}
 use Rattle.pc_path.specs.Output.{IsGiven}
+use Rattle.pc_path.specs.PathTask.{path_fault}
 
 -- `path` finds no fault where the source has these bytes, and this is the problem that it is asked about
 pub record IsAsked (request : PathRequest) (bytes : List ℕ) (problem : Problem) : Type 0 where

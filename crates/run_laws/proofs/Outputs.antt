@@ -50,22 +50,21 @@ use Rattle.pc_settings.specs.Request.{ComboRequest, FieldRequest, FieldText, IsI
 use Rattle.pc_source.specs.Faults.{cells_asked, field_fault, page_fault, text_fault}
 use Rattle.pc_source.specs.FieldText.{DashText, IsFieldOf}
 use Rattle.pc_source.specs.ProblemFaults.{full_row_fault, pattern_fault, problem_fault}
-use Rattle.pc_path.specs.Faults.{after_fault, listing_fault, path_fault}
+use Rattle.pc_path.specs.Faults.{after_fault, listing_fault}
 use Rattle.pc_source.specs.FieldTask.{SourceOf, fault_after_field, field_task, its_field, its_rest, rest_bytes, dash_text}
 use Rattle.pc_source.specs.Task.{Task}
 use Rattle.pc_path.specs.Formats.{solution_form, takes_memory_first}
 use Rattle.pc_path.specs.Output.{IsGiven, IsReportOf, stats_form}
-use Rattle.pc_path.specs.PathTask.{listing_task, path_task}
-use Rattle.pc_percent.specs.Faults.{percent_fault}
+use Rattle.pc_path.specs.PathTask.{listing_task, path_fault, path_task}
 use Rattle.pc_percent.specs.Lines.{percent_form}
 use Rattle.pc_percent.specs.Output.{IsAnsweredFor}
-use Rattle.pc_percent.specs.PercentTask.{asked_task, percent_task}
-use Rattle.pc_cover.specs.Faults.{cover_fault, covering_fault, given_fault}
+use Rattle.pc_percent.specs.PercentTask.{asked_task, percent_fault, percent_task}
+use Rattle.pc_cover.specs.Faults.{covering_fault, given_fault}
 use Rattle.pc_cover.specs.Given.{Given, given_in}
 use Rattle.pc_cover.specs.Lines.{cover_form}
 use Rattle.pc_cover.specs.Output.{IsCoveringOf}
 use Rattle.pc_cover.specs.CoverTask.{cover_task, covering_task}
-use Rattle.pc_combo.specs.Faults.{combo_fault, count_fault, one_queue, run_fault}
+use Rattle.pc_combo.specs.Faults.{count_fault, one_queue, run_fault}
 use Rattle.pc_combo.specs.Output.{IsOneQueue, IsRunFor, combo_form}
 use Rattle.pc_combo.specs.ComboTask.{combo_task, run_task}
 use Rattle.pc_pages.specs.Faults.{encode_fault, lines_fault, unwritten_fault}
@@ -184,7 +183,7 @@ module _ (known : LawsBelow) where
       given_lines (Ok sequences) none = (sequences, refl)
       given_lines (Err fault) none = let bad : Some (faults.Cover fault) ≡ None = none in cc
 
-  pub cover_has : (request : FieldRequest) (table : Table) (bytes : List ℕ) (floods : ℕ) → IsInRange request → request.table ≡ Ok table → IsSmallTable table → cover_fault request bytes ≡ None → Has ((cover_task request).IsOutput bytes floods)
+  pub cover_has : (request : FieldRequest) (table : Table) (bytes : List ℕ) (floods : ℕ) → IsInRange request → request.table ≡ Ok table → IsSmallTable table → (cover_task request).fault bytes ≡ None → Has ((cover_task request).IsOutput bytes floods)
   cover_has request table bytes floods range read small none =
       of_field its_rest request.field request.page true (covering_task request) bytes floods range.page none (covering_has request table bytes range read small)
 
@@ -211,7 +210,7 @@ module _ (known : LawsBelow) where
       one_queue_of (Ok es) is pattern count = let only = only_one (queues es) count in (only.0, record { elements = es; read = is; only = only.1 })
       one_queue_of (Err fault) is pattern count = let bad : Some (faults.Pattern fault) ≡ None = pattern in cc
 
-  pub combo_has : (request : ComboRequest) (table : Table) (bytes : List ℕ) (floods : ℕ) → 1 ≤ request.page → request.table ≡ Ok table → combo_fault request bytes ≡ None → Has ((combo_task request).IsOutput bytes floods)
+  pub combo_has : (request : ComboRequest) (table : Table) (bytes : List ℕ) (floods : ℕ) → 1 ≤ request.page → request.table ≡ Ok table → (combo_task request).fault bytes ≡ None → Has ((combo_task request).IsOutput bytes floods)
   combo_has request table bytes floods page read none =
       of_field its_field request.field request.page true (run_task request) bytes floods page none (run_has request table read)
 

@@ -7,7 +7,8 @@ use Rattle.pc_source.specs.FieldText.{of_source}
 use Rattle.pc_source.specs.ProblemFaults.{request_fault}
 use Rattle.pc_source.proofs.CallerLemmas.{refusal_before}
 use Rattle.pc_source.proofs.FieldFaults.{had_fault, request_first}
-use Rattle.pc_path.specs.Faults.{after_fault, listing_fault, path_fault}
+use Rattle.pc_path.specs.Faults.{after_fault, listing_fault}
+use Rattle.pc_path.specs.PathTask.{path_fault}
 use Rattle.pc_path.proofs.PathAnswers.{after_left, problem_first}
 use Rattle.pc_path.proofs.listing.listing_of.Goals as goal
 
