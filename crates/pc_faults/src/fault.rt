@@ -12,11 +12,13 @@ use well::RowsFault;
 /// lines, and then of their pages, after the source.
 #[derive(Clone, Copy, Debug, PartialEq, Eq)]
 pub enum Fault {
+    /// The words are not a command with its options.
     Words(WordsFault),
     /// The text of offsets spells no table.
     Kicks(KickFault),
     /// The source has more than 4,194,304 bytes.
     SourceTooLong,
+    /// The text is not a fumen.
     Fumen(FumenFault),
     /// The page that is asked for doesn't exist: its number, and how many pages there are.
     NoPage { asked: u32, there: u32 },
@@ -24,11 +26,13 @@ pub enum Fault {
     List(ListFault),
     /// The pages can't be written.
     Encode(EncodeFault),
+    /// The text is not a rows text. Its fault counts rows from 1 at the top.
     Rows(RowsFault),
-    /// A cell at or above the height is filled; `row` is the lowest such row.
+    /// A cell at or above the height is filled; `row` is the lowest such row, counted from 0 at the bottom.
     FieldTooHigh { row: u8 },
-    /// A row is full; `row` is the lowest full row.
+    /// A row is full; `row` is the lowest full row, counted from 0 at the bottom.
     FullRow { row: u8 },
+    /// The text is not a pattern, or one of too many pieces or queues.
     Pattern(PatternFault),
     /// The pattern doesn't stand for exactly one queue, but for this many.
     NotOneQueue { count: u32 },

@@ -21,9 +21,11 @@ pub enum WordsKind {
     MissingOption,
 }
 
-/// The first fault of the words, and the index of its word. For a missing option, the index is the number of words.
+/// The first fault of the words.
 #[derive(Clone, Copy, Debug, PartialEq, Eq)]
 pub struct WordsFault {
+    /// What is wrong.
     pub kind: WordsKind,
+    /// The index of the word, counted from 0. For a missing option, it is the number of words.
     pub index: usize,
 }

@@ -13,7 +13,7 @@ use queue_pattern::Pattern;
 use srs::Rules;
 use well::Well;
 
-/// Whether a column is one of the four from column `x` on.
+/// Whether column `x` is one of the four from this column on.
 #[tactic(auto, unfolding(crate::specs::Problem::is_left_open))]
 fn is_left_open(column: u8, x: u8) -> bool
     requires { column < 7 }
