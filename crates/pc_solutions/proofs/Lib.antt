@@ -1,5 +1,6 @@
 -- Lemmas on the solutions that are written.
 mod Given
+mod Refused
 mod Room
 mod SolutionsSoFar
 mod WholeLists

@@ -1,5 +1,5 @@
 -- What a reader must believe.
 pub mod Asked
 pub mod Written
--- What serves proofs alone.
-pub mod Refusals
+-- What contracts cite beside these: what a refusal of the listing becomes.
+pub mod Told

@@ -4,24 +4,23 @@ ghost use Rattle.std.specs.Option.{ForSome};
 ghost use Rattle.arrayvec.specs.ArrayVec.{array_vec_len};
 ghost use Rattle.srs.specs.declared.placement.Placement.{Placement};
 ghost use Rattle.placement_numbers.specs.Numbers.{AreNumbersOf};
-ghost use Rattle.problem.specs.Problem.{IsFit, needed_of};
 ghost use Rattle.enumerate.specs.Items.{items_of};
 ghost use Rattle.pc_faults.specs.declared.fault.Fault.{Fault};
 ghost use Rattle.pc_settings.specs.Request.{IsInRange};
 ghost use Rattle.pc_settings.specs.Views.{path_view};
 ghost use Rattle.pc_source.specs.FieldText.{field_needs};
 ghost use Rattle.pc_source.specs.Task.{nothing};
-ghost use Rattle.pc_path.specs.Faults.{path_fault};
 ghost use Rattle.pc_path.specs.Output.{IsGiven};
-ghost use Rattle.pc_solutions.specs.Asked.{HasNoRoom, HasNoSequence, HasRoom, IsAfter, IsAsked};
-ghost use Rattle.pc_solutions.specs.Refusals.{IsFaultOrMemory};
+ghost use Rattle.pc_path.specs.PathTask.{path_fault};
+ghost use Rattle.pc_solutions.specs.Asked.{HasNoRoom, HasNoSequence, HasRoom, IsAfter};
 ghost use Rattle.pc_solutions.specs.Written.{WritesSolutions};
+ghost use Rattle.pc_solutions.specs.declared.solutions.Refusal.{Refusal};
 
 use crate::list::{Written, most_written, write_list};
 use enumerate::Search;
 use pc_faults::Fault;
-use pc_outside::Refused;
-use pc_path::{Listing, listing_of};
+use pc_outside::{NoMemory, Refused};
+use pc_path::listing_of;
 use pc_settings::PathSettings;
 use placement_numbers::sequence_in;
 use problem::{Sequence, needed};
@@ -42,23 +41,24 @@ pub enum Refusal {
     NoMemory,
 }
 
-/// What the settings ask to list. `bytes` are those of the source.
-fn asked(alloc: Global, settings: &PathSettings<'_>, bytes: &[u8]) -> Result<Listing, Refusal>
-    requires { IsInRange (path_view settings.now).common }
-    ensures asked { IfOk result (λ listing. IsAsked (path_view settings.now) bytes.now listing.problem) }
-    ensures fit { IfOk result (λ listing. IsFit listing.problem) }
-    ensures after { IfOk result (λ listing.
-        IsGiven (needed_of listing.problem) (path_view settings.now).after (items_of listing.after)) }
-    ensures len { IfOk result (λ listing.
-        ForSome listing.after (λ sequence. array_vec_len sequence ≡ needed_of listing.problem)) }
-    ensures refused { IfErr result
-        (λ refusal. IsFaultOrMemory (path_fault (path_view settings.now) bytes.now) refusal) }
-    ensures memory { result ≡ Err Refusal.NoMemory → field_needs (path_view settings.now).common.field ≢ nothing }
-{
-    match listing_of(alloc, settings, bytes) {
-        Ok(listing) => Ok(listing),
-        Err(Refused::Fault(fault)) => Err(Refusal::Fault(fault)),
-        Err(Refused::NoMemory) => Err(Refusal::NoMemory),
+impl From<NoMemory> for Refusal {
+    ghost from_gives = { λ _ why. why ≡ Refusal.NoMemory };
+
+    fn from(_none: NoMemory) -> Refusal {
+        Refusal::NoMemory
+    }
+}
+
+impl From<Refused<Fault>> for Refusal {
+    ghost use Rattle.pc_solutions.specs.Told.{refusal};
+
+    ghost from_gives = { λ refused why. why ≡ refusal refused };
+
+    fn from(refused: Refused<Fault>) -> Refusal {
+        match refused {
+            Refused::Fault(fault) => Refusal::Fault(fault),
+            Refused::NoMemory => Refusal::NoMemory,
+        }
     }
 }
 
@@ -116,17 +116,14 @@ pub fn write_solutions<L: Ledger>(
     ensures idle { OnErr result (steps.new ≡ steps.old) }
     ensures counted { steps.old ≤ steps.new }
 {
-    let listing = asked(alloc, settings, bytes)?;
+    let listing = listing_of(alloc, settings, bytes)?;
     let problem = listing.problem;
     let needed = needed(&problem);
     let after = list_after(needed, listing.after, after)?;
     if placements.len() < 4 * usize::from(needed) {
         return Err(Refusal::NoRoom);
     }
-    let mut search = match Search::start(alloc, problem, after) {
-        Ok(search) => search,
-        Err(_) => return Err(Refusal::NoMemory),
-    };
+    let mut search = Search::start(alloc, problem, after)?;
     let most = most_written(settings.limit, placements.len(), needed);
     Ok(write_list(&problem, &mut search, most, placements, steps))
 }

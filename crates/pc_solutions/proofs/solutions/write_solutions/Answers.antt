@@ -1,5 +1,5 @@
 -- What is asked, the sequence after which the list begins, the room, and then what one search lists.
-use Rattle.std.proofs.Common.{◌≡◌, ◌∙◌, ◌*◌, ◌-◌, ◌<◌, nat_lt, min, length, sym, ap, subst, inr, arith}
+use Rattle.std.proofs.Common.{◌≡◌, ◌∙◌, ◌*◌, ◌-◌, ◌<◌, nat_lt, min, length, Err, sym, ap, subst, inl, inr, arith}
 use Rattle.std.proofs.lemmas.List.{length-take-le}
 use Rattle.placement_numbers.specs.Numbers.{AreNumbersOf}
 use Rattle.problem.specs.Problem.{needed_of}
@@ -7,16 +7,32 @@ use Rattle.problem.specs.SolutionList.{IsList}
 use Rattle.enumerate.specs.Items.{items_of}
 use Rattle.enumerate.specs.ViewOf.{solutions}
 use Rattle.pc_settings.specs.Views.{path_view}
+use Rattle.pc_path.specs.PathTask.{path_fault}
 use Rattle.pc_path.specs.Work.{IsSearchOf}
 use Rattle.pc_solutions.specs.Written.{most_written}
-use Rattle.pc_solutions.proofs.Given.{asks_after}
+use Rattle.pc_solutions.proofs.Given.{asks_after, is_asked}
+use Rattle.pc_solutions.proofs.Refused.{fault_told, memory_told, no_room_told, no_sequence_told}
 use Rattle.pc_solutions.proofs.Room.{all_fit, most_fit}
 use Rattle.pc_solutions.proofs.solutions.write_solutions.Goals as goal
+
+pub returns-in_err-listing-clause-fault : goal.returns-in_err-listing-clause-fault
+returns-in_err-listing-clause-fault g c =
+    fault_told (path_fault (path_view c.args.settings.now) c.args.bytes.now) c.in_err-listing.field-0.0 c.from_residual.result c.from_residual.ensures.1 c.in_err-listing.ensures.refused
+
+pub returns-in_err-listing-clause-no_sequence : goal.returns-in_err-listing-clause-no_sequence
+returns-in_err-listing-clause-no_sequence g c = λ is. absurd (no_sequence_told c.in_err-listing.field-0.0 c.from_residual.result c.from_residual.ensures.1 is)
+
+pub returns-in_err-listing-clause-no_room : goal.returns-in_err-listing-clause-no_room
+returns-in_err-listing-clause-no_room g c = λ is. absurd (no_room_told c.in_err-listing.field-0.0 c.from_residual.result c.from_residual.ensures.1 is)
+
+pub returns-in_err-listing-clause-memory : goal.returns-in_err-listing-clause-memory
+returns-in_err-listing-clause-memory g c = λ is.
+    inl (c.in_err-listing.ensures.memory (ap (λ r. Err r) (memory_told c.in_err-listing.field-0.0 c.from_residual.result c.from_residual.ensures.1 is)))
 
 pub returns-in_err-after-clause-no_sequence : goal.returns-in_err-after-clause-no_sequence
 returns-in_err-after-clause-no_sequence g c = λ is. record {
   problem = c.in_ok-listing.listing.problem;
-  asked = c.in_ok-listing.ensures.asked;
+  asked = is_asked (path_view c.args.settings.now) c.args.bytes.now c.in_ok-listing.listing.problem c.in_ok-listing.ensures.problem c.in_ok-listing.ensures.none;
   some = c.in_err-after.ensures.refused.1;
   none = λ sequence of. c.in_err-after.ensures.refused.2 sequence (subst (λ needed. AreNumbersOf needed c.args.after.now sequence) (sym c.needed-needed.ensures) of);
 }
@@ -28,18 +44,18 @@ returns-then-placements-from-clause-no_room g c = λ is.
     record {
       problem = problem;
       after = items_of c.in_ok-after.after;
-      asks = asks_after c.needed-needed.result (path_view c.args.settings.now) c.args.bytes.now c.args.after.now problem (items_of c.in_ok-listing.listing.after) (items_of c.in_ok-after.after) needed c.in_ok-listing.ensures.asked c.in_ok-listing.ensures.after c.in_ok-after.ensures.after;
+      asks = asks_after c.needed-needed.result (path_view c.args.settings.now) c.args.bytes.now c.args.after.now problem (items_of c.in_ok-listing.listing.after) (items_of c.in_ok-after.after) needed c.in_ok-listing.ensures.problem c.in_ok-listing.ensures.none c.in_ok-listing.ensures.after c.in_ok-after.ensures.after;
       short = omega (arith, c.if-placements-from.true, needed, c.from.ensures);
     }
 
-pub returns-in-Err-clause-memory : goal.returns-in-Err-clause-memory
-returns-in-Err-clause-memory g c = λ is.
+pub returns-in_err-search-clause-memory : goal.returns-in_err-search-clause-memory
+returns-in_err-search-clause-memory g c = λ is.
     let problem = c.in_ok-listing.listing.problem in
     let needed = c.needed-needed.ensures in
     inr (record {
       problem = problem;
       after = items_of c.in_ok-after.after;
-      asks = asks_after c.needed-needed.result (path_view c.args.settings.now) c.args.bytes.now c.args.after.now problem (items_of c.in_ok-listing.listing.after) (items_of c.in_ok-after.after) needed c.in_ok-listing.ensures.asked c.in_ok-listing.ensures.after c.in_ok-after.ensures.after;
+      asks = asks_after c.needed-needed.result (path_view c.args.settings.now) c.args.bytes.now c.args.after.now problem (items_of c.in_ok-listing.listing.after) (items_of c.in_ok-after.after) needed c.in_ok-listing.ensures.problem c.in_ok-listing.ensures.none c.in_ok-listing.ensures.after c.in_ok-after.ensures.after;
       enough = omega (arith, c.if-placements-from.false, needed, c.from.ensures);
     })
 
@@ -58,20 +74,20 @@ pub returns-clause-written : goal.returns-clause-written
 returns-clause-written g c =
     let problem = c.in_ok-listing.listing.problem in
     let needed = c.needed-needed.ensures in
-    let search = c.in-Ok.search in
+    let search = c.in_ok-search.search in
     let list = c.write_list.ensures in
     let after = items_of c.in_ok-after.after in
-    let given = c.in-Ok.ensures.after in
+    let given = c.in_ok-search.ensures.after in
     let room = length c.args.placements.now in
     let limit = c.args.settings.now.limit in
     let most = c.most_written-most.ensures ∙ ap (most_written limit room) needed in
     record {
       problem = problem;
       after = after;
-      asks = asks_after c.needed-needed.result (path_view c.args.settings.now) c.args.bytes.now c.args.after.now problem (items_of c.in_ok-listing.listing.after) after needed c.in_ok-listing.ensures.asked c.in_ok-listing.ensures.after c.in_ok-after.ensures.after;
+      asks = asks_after c.needed-needed.result (path_view c.args.settings.now) c.args.bytes.now c.args.after.now problem (items_of c.in_ok-listing.listing.after) after needed c.in_ok-listing.ensures.problem c.in_ok-listing.ensures.none c.in_ok-listing.ensures.after c.in_ok-after.ensures.after;
       fits = omega (arith, c.if-placements-from.false, needed, c.from.ensures);
       sequences = solutions search;
-      list = subst (λ v. IsList v (solutions search)) c.in-Ok.ensures.view c.in-Ok.ensures.list;
+      list = subst (λ v. IsList v (solutions search)) c.in_ok-search.ensures.view c.in_ok-search.ensures.list;
       counted = subst (λ n. c.write_list.result.count ≡ n) (ap (λ m. min m (length (solutions search))) most) list.count;
       are = list.written;
       size = length-take-le c.write_list.result.size c.write_list.new.placements (returns-clause-within g c) ∙ list.size;
