@@ -1,5 +1,5 @@
 -- What a turn of the loop over the queues leaves to write.
-use Rattle.std.proofs.Common.{◌≡◌, ◌∙◌, ◌↔◌, ℕ, zero, suc, ◌+◌, ◌-◌, ◌<◌, ◌≤◌, List, [], ◌++◌, length, drop, Bool, true, false, IsTrue, refl, sym, ap, subst, arith, get_or}
+use Rattle.std.proofs.Common.{◌≡◌, ◌∙◌, ◌↔◌, ℕ, zero, suc, ◌+◌, ◌-◌, ◌<◌, ◌≤◌, List, [], ◌++◌, length, drop, Bool, true, false, IsTrue, refl, ap, subst, arith, get_or}
 use Rattle.std.specs.Prelude.{Some, slice_get}
 use Rattle.std.proofs.lemmas.List.{at_drop_more, drop_all}
 use Rattle.std.proofs.lemmas.Option.{get_or_from_slice_get, slice_get-get_or}
@@ -15,10 +15,8 @@ use Rattle.pc_percent.specs.Lines.{failed_form, failed_lines}
 use Rattle.pc_percent.proofs.FailedLines.{failed_first, good_passed, none_asked, none_left}
 
 module _ (test : List Piece → Bool) (qs : List (List Piece)) (n : ℕ) where
-  pub none_more : (left : ℕ) → left ≡ 0 → failed_lines test left (drop n qs) ≡ failed_lines test left (drop (n + 1) qs)
-  none_more left e =
-      ap (λ l. failed_lines test l (drop n qs)) e ∙ none_asked test (drop n qs) ∙ sym (none_asked test (drop (n + 1) qs))
-      ∙ sym (ap (λ l. failed_lines test l (drop (n + 1) qs)) e)
+  pub none_more : (left : ℕ) → left ≡ 0 → failed_lines test left (drop n qs) ≡ []
+  none_more left e = ap (λ l. failed_lines test l (drop n qs)) e ∙ none_asked test (drop n qs)
 
   pub good_more : (left : ℕ) → n < length qs → test (get_or qs n []) ≡ true → failed_lines test left (drop n qs) ≡ failed_lines test left (drop (n + 1) qs)
   good_more left within good =

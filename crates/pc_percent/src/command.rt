@@ -41,7 +41,10 @@ fn write_all_failed<O: Sink>(
 {
     let mut left = limit;
     for number in 0..problem.pattern.count() {
-        if left > 0 && !answers.is_good(number) {
+        if left == 0 {
+            return Ok(());
+        }
+        if !answers.is_good(number) {
             write_failed(out, &problem.pattern.queue(number))?;
             left -= 1;
         }
