@@ -1,5 +1,5 @@
 -- A search whose solutions are counted.
-use Rattle.std.proofs.Common.{◌≡◌, ◌∙◌, ℕ, ◌+◌, ◌-◌, ◌<◌, ◌≤◌, ◌^◌, List, [], ◌∷◌, length, Some, refl, ap, arith, rules}
+use Rattle.std.proofs.Common.{◌≡◌, ◌∙◌, ℕ, ◌+◌, ◌-◌, ◌<◌, ◌≤◌, List, [], ◌∷◌, length, Some, refl, ap, arith}
 use Rattle.srs.specs.declared.placement.Placement.{Placement}
 use Rattle.enumerate.specs.declared.search.Search.{Search}
 use Rattle.problem.specs.SolutionList.{View}
@@ -47,6 +47,3 @@ module _ (start old new : Search) (before mid now count : ℕ) (is : IsCounted s
 
 pub fewer : (old new : Search) (s : List Placement) → solutions old ≡ s ∷ solutions new → length (solutions new) < length (solutions old)
 fewer old new s next = let one : length (solutions old) ≡ 1 + length (solutions new) = ap length next ∙ omega arith in omega (arith, one)
-
-pub room : (start old new : Search) (before mid count : ℕ) (s : List Placement) → IsCounted start old before mid count → solutions old ≡ s ∷ solutions new → length (solutions start) < 2 ^ 64 → count + 1 < 2 ^ 64
-room start old new before mid count s is next few = search rules

@@ -16,10 +16,8 @@ pub fn count_solutions<L: Ledger>(search: &mut Search, steps: &mut Steps<L>) -> 
         → steps.new - steps.old ≡ pairs (view_of search.old).problem (view_of search.old).queue }
 {
     let mut count = 0;
-    'solutions: loop {
-        match search.next(steps) {
-            Some(_) => count += 1,
-            None => return count,
-        }
+    'solutions: while let Some(_) = search.next(steps) {
+        count += 1;
     }
+    count
 }

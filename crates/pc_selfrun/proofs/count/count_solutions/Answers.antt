@@ -14,12 +14,12 @@ solutions-preserved g c =
 pub solutions-smaller : goal.solutions-smaller
 solutions-smaller g c = fewer c.solutions.search c.next.new.self _ c.in-Some.ensures.found.0
 
-pub returns-in-None-clause-count : goal.returns-in-None-clause-count
-returns-in-None-clause-count g c =
-    counts_all c.args.search.now c.solutions.search c.next.new.self c.args.steps.now c.solutions.steps c.next.new.steps c.solutions.count c.solutions.invariant c.in-None.ensures.counted c.in-None.ensures.rose
-    c.in-None.ensures.found.0
+pub returns-clause-count : goal.returns-clause-count
+returns-clause-count g c =
+    counts_all c.args.search.now c.solutions.search c.next.new.self c.args.steps.now c.solutions.steps c.next.new.steps c.solutions.count c.solutions.invariant c.in_default.ensures.counted c.in_default.ensures.rose
+    c.in_default.ensures.found.0
 
-pub returns-in-None-clause-all : goal.returns-in-None-clause-all
-returns-in-None-clause-all g c = λ none idle.
-    floods_all c.args.search.now c.solutions.search c.next.new.self c.args.steps.now c.solutions.steps c.next.new.steps c.solutions.count c.solutions.invariant c.in-None.ensures.counted c.in-None.ensures.rose
-    idle (c.in-None.ensures.whole (c.solutions.invariant.given ∙ none))
+pub returns-clause-all : goal.returns-clause-all
+returns-clause-all g c = λ none idle.
+    floods_all c.args.search.now c.solutions.search c.next.new.self c.args.steps.now c.solutions.steps c.next.new.steps c.solutions.count c.solutions.invariant c.in_default.ensures.counted c.in_default.ensures.rose
+    idle (c.in_default.ensures.whole (c.solutions.invariant.given ∙ none))
