@@ -6,6 +6,7 @@ ghost use Rattle.std.specs.Prelude.{◌≡◌, ◌<◌};
 mod edge;
 
 use edge::exit_code;
+use pc_faults::Status;
 use pc_outside::{FileSink, FileSource};
 use reach::Steps;
 use std::env;
@@ -14,9 +15,7 @@ use std::marker::Brand;
 use std::process::ExitCode;
 use std::sync::ledger::{Blank, Ledger};
 
-/// The statuses if the words can't be read: not enough memory, or anything else, such as a word that is not UTF-8.
-const NO_MEMORY: u8 = 5;
-
+/// The status if the words can't be read for another reason than memory, such as a word that is not UTF-8.
 const NO_WORDS: u8 = 6;
 
 fn words(rt: &HostRuntime) -> io::Result<Vec<String>> {
@@ -45,7 +44,9 @@ fn run_counted<L: Ledger>(rt: &HostRuntime, blank: Blank, words: &[String]) -> u
 fn main(rt: HostRuntime) -> ExitCode {
     match words(&rt) {
         Ok(words) => ExitCode::from(run_counted::<Brand>(&rt, Blank::new(1), &words)),
-        Err(error) if error.kind() == ErrorKind::OutOfMemory => ExitCode::from(NO_MEMORY),
+        Err(error) if error.kind() == ErrorKind::OutOfMemory => {
+            ExitCode::from(Status::NoMemory.code())
+        }
         Err(_) => ExitCode::from(NO_WORDS),
     }
 }
