@@ -29,30 +29,30 @@ record ActionStands (dialect : Dialect) (ds : List ℕ) (place : ℕ) (action : 
   stands : NumberStands ds place 3 number
   says : SaysAction dialect number action
 
-seen_ok : (place page : ℕ) (read : Result Action ActionFault) (action : Action) → seen_action place page read ≡ Ok action → read ≡ Ok action
-seen_ok place page read action e = search rules
+seen_ok : (place number : ℕ) (read : Result Action ActionFault) (action : Action) → seen_action place number read ≡ Ok action → read ≡ Ok action
+seen_ok place number read action e = search rules
 
-seen_err : (place page : ℕ) (read : Result Action ActionFault) (f : FumenFault) → seen_action place page read ≡ Err f → (g : ActionFault) × (read ≡ Err g) × (f ≡ action_fault place page g)
-seen_err place page read f e = search rules
+seen_err : (place number : ℕ) (read : Result Action ActionFault) (f : FumenFault) → seen_action place number read ≡ Err f → (g : ActionFault) × (read ≡ Err g) × (f ≡ action_fault place number g)
+seen_err place number read f e = search rules
 
 abbrev seen_at : Dialect → ℕ → ℕ → ℕ → Result Action FumenFault
-seen_at dialect page place number = seen_action place page (action_in dialect number)
+seen_at dialect number place n = seen_action place number (action_in dialect n)
 
-action_from_read : (dialect : Dialect) (page : ℕ) (ds : List ℕ) (place : ℕ) (action : Action) → place ≤ length ds → action_at dialect page ds place ≡ Ok action → ActionStands dialect ds place action
+action_from_read : (dialect : Dialect) (number : ℕ) (ds : List ℕ) (place : ℕ) (action : Action) → place ≤ length ds → action_at dialect number ds place ≡ Ok action → ActionStands dialect ds place action
 unfolding action_at
-action_from_read dialect page ds place action le e =
-    let n = bind_ok (number_at ds place 3) (λ number. seen_at dialect page place number) action e in
-    record { number = n.0; stands = stands_from_read ds place place 3 n.0 le n.1; says = says_from_read dialect n.0 action (seen_ok place page (action_in dialect n.0) action n.2) }
+action_from_read dialect number ds place action le e =
+    let n = bind_ok (number_at ds place 3) (λ n. seen_at dialect number place n) action e in
+    record { number = n.0; stands = stands_from_read ds place place 3 n.0 le n.1; says = says_from_read dialect n.0 action (seen_ok place number (action_in dialect n.0) action n.2) }
 
 -- an action with a comment was read
-pub comment_due : (dialect : Dialect) (page : ℕ) (ds : List ℕ) (place : ℕ) (action : Action) → place ≤ length ds → action_at dialect page ds place ≡ Ok action → action.comment ≡ true → IsCommentDue dialect ds place
-comment_due dialect page ds place action le read flagged =
-    let s = action_from_read dialect page ds place action le read in
+pub comment_due : (dialect : Dialect) (number : ℕ) (ds : List ℕ) (place : ℕ) (action : Action) → place ≤ length ds → action_at dialect number ds place ≡ Ok action → action.comment ≡ true → IsCommentDue dialect ds place
+comment_due dialect number ds place action le read flagged =
+    let s = action_from_read dialect number ds place action le read in
     record { number = s.number; stands = s.stands; action = action; says = s.says; flagged = flagged }
 
-read_from_action : (dialect : Dialect) (page : ℕ) (ds : List ℕ) (place : ℕ) (action : Action) → ActionStands dialect ds place action → action_at dialect page ds place ≡ Ok action
+read_from_action : (dialect : Dialect) (number : ℕ) (ds : List ℕ) (place : ℕ) (action : Action) → ActionStands dialect ds place action → action_at dialect number ds place ≡ Ok action
 unfolding action_at
-read_from_action dialect page ds place action s = search (rules, ok_bind, read_from_stands, read_from_says)
+read_from_action dialect number ds place action s = search (rules, ok_bind, read_from_stands, read_from_says)
 
 -- ---- the comment
 
@@ -140,17 +140,17 @@ read_from_page dialect cells number ds place page end same t =
 
 -- ---- faults
 
-fault_of_action : (dialect : Dialect) (page : ℕ) (ds : List ℕ) (place number : ℕ) (f : FumenFault) (g : ActionFault) → NumberStands ds place 3 number → action_in dialect number ≡ Err g → f ≡ action_fault place page g → IsTailFault dialect page ds place f
-fault_of_action dialect page ds place number f g stands e is = search (rules, why_not)
+fault_of_action : (dialect : Dialect) (number : ℕ) (ds : List ℕ) (place n : ℕ) (f : FumenFault) (g : ActionFault) → NumberStands ds place 3 n → action_in dialect n ≡ Err g → f ≡ action_fault place number g → IsTailFault dialect number ds place f
+fault_of_action dialect number ds place n f g stands e is = search (rules, why_not)
 
-action_fault_from_read : (dialect : Dialect) (page : ℕ) (ds : List ℕ) (place : ℕ) (f : FumenFault) → place ≤ length ds → action_at dialect page ds place ≡ Err f → IsTailFault dialect page ds place f
+action_fault_from_read : (dialect : Dialect) (number : ℕ) (ds : List ℕ) (place : ℕ) (f : FumenFault) → place ≤ length ds → action_at dialect number ds place ≡ Err f → IsTailFault dialect number ds place f
 unfolding action_at
-action_fault_from_read dialect page ds place f le e =
-    elim (bind_err (number_at ds place 3) (λ number. seen_at dialect page place number) f e) [
+action_fault_from_read dialect number ds place f le e =
+    elim (bind_err (number_at ds place 3) (λ n. seen_at dialect number place n) f e) [
       | inl bad ↦ inl (number_fault_from_read ds place 3 f le bad)
       | inr n ↦
-          let g = seen_err place page (action_in dialect n.0) f n.2 in
-          fault_of_action dialect page ds place n.0 f g.0 (stands_from_read ds place place 3 n.0 le n.1) g.1 g.2
+          let g = seen_err place number (action_in dialect n.0) f n.2 in
+          fault_of_action dialect number ds place n.0 f g.0 (stands_from_read ds place place 3 n.0 le n.1) g.1 g.2
     ]
 
 pub tail_fault_from_read : (dialect : Dialect) (cells : List ℕ) (number : ℕ) (ds : List ℕ) (place : ℕ) (f : FumenFault) → place ≤ length ds → page_at dialect cells number ds place ≡ Err f → IsTailFault dialect number ds place f

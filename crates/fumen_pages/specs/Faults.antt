@@ -103,8 +103,8 @@ pub record IsCommentDue (dialect : Dialect) (ds : List ℕ) (place : ℕ) : Type
 -- the fault of the tail at a place, of a page counted from 1: that of its number, or of what the number says, or of the
 -- comment that is due
 abbrev pub IsTailFault : Dialect → ℕ → List ℕ → ℕ → FumenFault → Type 0
-IsTailFault dialect page ds place f =
+IsTailFault dialect number ds place f =
     IsNumberFault ds place 3 f
     ⊎ (IsLargeAction dialect ds place × (f ≡ BadAction place))
-    ⊎ (IsOutsideAction dialect ds place × (f ≡ PieceOutside page))
+    ⊎ (IsOutsideAction dialect ds place × (f ≡ PieceOutside number))
     ⊎ (IsCommentDue dialect ds place × IsCommentFault ds (place + 3) f)

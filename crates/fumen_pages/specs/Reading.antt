@@ -103,20 +103,20 @@ action_in dialect number =
 
 -- a fault of an action among those of a text, where the number stands at a place, in a page counted from 1
 abbrev pub action_fault : ℕ → ℕ → ActionFault → FumenFault
-action_fault place page bad_action.TooLarge = BadAction place
-action_fault place page bad_action.Outside = PieceOutside page
+action_fault place number bad_action.TooLarge = BadAction place
+action_fault place number bad_action.Outside = PieceOutside number
 
 -- ---- the tail of a page
 
 abbrev pub seen_action : ℕ → ℕ → Result Action ActionFault → Result Action FumenFault
-seen_action place page (Ok action) = Ok action
-seen_action place page (Err fault) = Err (action_fault place page fault)
+seen_action place number (Ok action) = Ok action
+seen_action place number (Err fault) = Err (action_fault place number fault)
 
--- the action at a place
+-- the action at a place, in a page counted from 1
 unfoldable pub action_at : Dialect → ℕ → List ℕ → ℕ → Result Action FumenFault
-action_at dialect page ds place = do
-  number ← number_at ds place 3
-  seen_action place page (action_in dialect number)
+action_at dialect number ds place = do
+  action_number ← number_at ds place 3
+  seen_action place number (action_in dialect action_number)
 
 -- the comment at a place, where there is one, and the place behind it
 unfoldable pub part_at : Bool → List ℕ → ℕ → Result (Option (List ℕ) × ℕ) FumenFault
@@ -140,7 +140,7 @@ page_of cells action comment =
 
 -- the page of these cells whose tail stands at a place, counted from 1, and the place behind it
 unfoldable pub page_at : Dialect → List ℕ → ℕ → List ℕ → ℕ → Result (Page × ℕ) FumenFault
-page_at dialect cells page ds place = do
-  action ← action_at dialect page ds place
+page_at dialect cells number ds place = do
+  action ← action_at dialect number ds place
   part ← part_at action.comment ds (place + 3)
   Ok (page_of cells action part.0, part.1)

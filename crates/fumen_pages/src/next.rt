@@ -9,7 +9,7 @@ ghost use Rattle.fumen_pages.specs.Sound.{IsSound};
 
 use crate::page::Page;
 use fumen_digits::Dialect;
-use srs::{Placement, cells};
+use srs::Placement;
 
 /// The cells that a page leaves for the page after it. A page that doesn't lock leaves its own cells.
 ///
@@ -42,47 +42,47 @@ fn left_cells(dialect: Dialect, page: &Page) -> [u8; 240]
 
 /// Gives the cells of the operation, if any, the colour of its piece.
 #[tactic(auto, unfolding(crate::specs::Next::operation_filled))]
-fn fill(page: &mut [u8; 240], operation: &Option<Placement>)
+fn fill(cells: &mut [u8; 240], operation: &Option<Placement>)
     requires { ForSome operation.now (λ placement. IsTrue (is_inside_of placement)) }
-    ensures { page.new ≡ operation_filled operation.now page.old }
+    ensures { cells.new ≡ operation_filled operation.now cells.old }
 {
     if let Some(placement) = operation {
-        mark(page, placement, placement.piece.code());
+        mark(cells, placement, placement.piece.code());
     }
 }
 
 /// Sets the cells of a placement to a value, whatever was there: in the cells of a page, or in anything that stands for
 /// them in the same order.
-pub fn mark(page: &mut [u8; 240], placement: &Placement, value: u8)
+pub fn mark(cells: &mut [u8; 240], placement: &Placement, value: u8)
     requires { IsTrue (is_inside_of placement.now) }
-    ensures { page.new ≡ marked placement.now value page.old }
+    ensures { cells.new ≡ marked placement.now value cells.old }
 {
-    let [a, b, c, d] = cells(placement);
-    set_cell(page, a, value);
-    set_cell(page, b, value);
-    set_cell(page, c, value);
-    set_cell(page, d, value);
+    let [a, b, c, d] = srs::cells(placement);
+    set_cell(cells, a, value);
+    set_cell(cells, b, value);
+    set_cell(cells, c, value);
+    set_cell(cells, d, value);
 }
 
 /// Sets the cell at this column and row to a value.
-fn set_cell(page: &mut [u8; 240], cell: (i8, i8), value: u8)
+fn set_cell(cells: &mut [u8; 240], cell: (i8, i8), value: u8)
     requires { IsTrue (in_well cell) }
-    ensures { page.new ≡ slice_set page.old (place_of V115 cell) value }
+    ensures { cells.new ≡ slice_set cells.old (place_of V115 cell) value }
 {
     let (x, y) = cell;
-    page[(22 - y as usize) * 10 + x as usize] = value;
+    cells[(22 - y as usize) * 10 + x as usize] = value;
 }
 
 /// Removes the full rows. The rows above them move down, and empty rows come in at the top.
-fn clear(dialect: Dialect, page: &mut [u8; 240])
-    ensures rows { rows_of dialect page.new ≡ cleared (rows_of dialect page.old) }
-    ensures missing { take (missing_count dialect) page.new ≡ take (missing_count dialect) page.old }
+fn clear(dialect: Dialect, cells: &mut [u8; 240])
+    ensures rows { rows_of dialect cells.new ≡ cleared (rows_of dialect cells.old) }
+    ensures missing { take (missing_count dialect) cells.new ≡ take (missing_count dialect) cells.old }
 {
     let top = 240 - dialect.cells() as usize;
     for i in 0..dialect.rows() as usize {
         let end = top + 10 * (i + 1);
-        if is_full(&page[end - 10..end]) {
-            lower(&mut page[top..end]);
+        if is_full(&cells[end - 10..end]) {
+            lower(&mut cells[top..end]);
         }
     }
 }
@@ -105,15 +105,15 @@ fn lower(rows: &mut [u8])
 
 /// With rise, removes the top row, moves each row up by one, and empties the garbage row.
 #[tactic(auto, using(crate::proofs::NextLaws::risen_from))]
-fn rise(dialect: Dialect, rise: bool, page: &mut [u8; 240])
-    ensures rows { rows_of dialect page.new ≡ risen rise (rows_of dialect page.old) }
-    ensures missing { take (missing_count dialect) page.new ≡ take (missing_count dialect) page.old }
+fn rise(dialect: Dialect, rise: bool, cells: &mut [u8; 240])
+    ensures rows { rows_of dialect cells.new ≡ risen rise (rows_of dialect cells.old) }
+    ensures missing { take (missing_count dialect) cells.new ≡ take (missing_count dialect) cells.old }
 {
     if !rise {
         return;
     }
     let top = 240 - dialect.cells() as usize;
-    lift(&mut page[top..]);
+    lift(&mut cells[top..]);
 }
 
 /// Removes the first row. The others move up by one, and an empty row comes in at the end.
@@ -128,9 +128,9 @@ fn lift(rows: &mut [u8])
 }
 
 /// With mirror, reverses each row except the garbage row.
-fn mirror(dialect: Dialect, mirror: bool, page: &mut [u8; 240])
-    ensures rows { rows_of dialect page.new ≡ mirrored_rows mirror (rows_of dialect page.old) }
-    ensures missing { take (missing_count dialect) page.new ≡ take (missing_count dialect) page.old }
+fn mirror(dialect: Dialect, mirror: bool, cells: &mut [u8; 240])
+    ensures rows { rows_of dialect cells.new ≡ mirrored_rows mirror (rows_of dialect cells.old) }
+    ensures missing { take (missing_count dialect) cells.new ≡ take (missing_count dialect) cells.old }
 {
     if !mirror {
         return;
@@ -138,6 +138,6 @@ fn mirror(dialect: Dialect, mirror: bool, page: &mut [u8; 240])
     let top = 240 - dialect.cells() as usize;
     for i in 0..dialect.rows() as usize {
         let start = top + 10 * i;
-        page[start..start + 10].reverse();
+        cells[start..start + 10].reverse();
     }
 }

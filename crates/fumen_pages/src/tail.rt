@@ -17,8 +17,8 @@ use fumen_digits::{Dialect, FumenFault, number_at};
 use pc_outside::Refused;
 use std::alloc::Global;
 
-/// Reads a page from its action on, given its cells. Returns the page and the place behind it. Pages are counted from
-/// 1.
+/// Reads a page from its action on, given its cells and its number, counted from 1. Returns the page and the place
+/// behind it.
 ///
 /// A refusal is the first fault from the left.
 pub fn read_page(
@@ -27,12 +27,12 @@ pub fn read_page(
     place: usize,
     dialect: Dialect,
     cells: &[u8; 240],
-    page: u32,
+    number: u32,
 ) -> Result<(Page, usize), Refused<FumenFault>>
     requires { place ≤ length digits.now }
 
     // The result of reading from the left.
-    ensures exact { Gives (λ x. x) (λ f. f) result (page_at dialect cells.now page digits.now place) }
+    ensures exact { Gives (λ x. x) (λ f. f) result (page_at dialect cells.now number digits.now place) }
 
     // The place behind it is among the digits, or at their end, and its operation lies inside.
     ensures within { IfOk result (λ x. x.1 ≤ length digits.now) }
@@ -46,15 +46,15 @@ pub fn read_page(
 
     // A fault is the first one there, and the first one there is returned, unless memory runs out.
     ensures fault { (f : FumenFault) → result ≡ Err (Refused.Fault f) →
-        IsTailFault dialect page digits.now place f }
-    ensures fault_only { (f : FumenFault) → IsTailFault dialect page digits.now place f →
+        IsTailFault dialect number digits.now place f }
+    ensures fault_only { (f : FumenFault) → IsTailFault dialect number digits.now place f →
         Gives (λ x. x) (λ f. f) result (Err f) }
 
     // Memory cannot run out for a page without a comment, nor before a fault up to the comment's first group is found.
     ensures memory { result ≡ Err Refused.NoMemory →
         IsCommentDue dialect digits.now place × HasGroup digits.now (place + 3) }
 {
-    read_tail(alloc, digits, place, dialect, cells, page)
+    read_tail(alloc, digits, place, dialect, cells, number)
 }
 
 #[tactic(auto, using(std::proofs::lemmas::Result::err_from_is_err_and, fumen_digits::proofs::CallerLemmas::err_passed, crate::proofs::PageReadAsSpelled::comment_due), unfolding(crate::specs::Reading::page_at))]
@@ -64,14 +64,14 @@ fn read_tail(
     place: usize,
     dialect: Dialect,
     cells: &[u8; 240],
-    page: u32,
+    number: u32,
 ) -> Result<(Page, usize), Refused<FumenFault>>
     requires { place ≤ length digits.now }
-    ensures exact { Gives (λ x. x) (λ f. f) result (page_at dialect cells.now page digits.now place) }
+    ensures exact { Gives (λ x. x) (λ f. f) result (page_at dialect cells.now number digits.now place) }
     ensures memory { result ≡ Err Refused.NoMemory →
         IsCommentDue dialect digits.now place × HasGroup digits.now (place + 3) }
 {
-    let action = action_at(digits, place, dialect, page)?;
+    let action = action_at(digits, place, dialect, number)?;
     let (comment, end) = part_at(alloc, digits, place + 3, action.comment)?;
     let page = Page {
         cells: *cells,
@@ -85,24 +85,24 @@ fn read_tail(
     Ok((page, end))
 }
 
-/// The action at a place.
+/// The action at a place, in a page counted from 1.
 #[tactic(auto, unfolding(crate::specs::Reading::action_at))]
 fn action_at(
     digits: &[u8],
     place: usize,
     dialect: Dialect,
-    page: u32,
+    number: u32,
 ) -> Result<Action, Refused<FumenFault>>
     requires { place ≤ length digits.now }
-    ensures exact { Gives (λ action. action) (λ f. f) result (action_at dialect page digits.now place) }
+    ensures exact { Gives (λ action. action) (λ f. f) result (action_at dialect number digits.now place) }
     ensures within { IfOk result (λ _. place + 3 ≤ length digits.now) }
     ensures memory { result ≢ Err Refused.NoMemory }
 {
-    let number = number_at(digits, place, 3)?;
-    match read_action(dialect, number) {
+    let action_number = number_at(digits, place, 3)?;
+    match read_action(dialect, action_number) {
         Ok(action) => Ok(action),
         Err(ActionFault::TooLarge) => Err(Refused::Fault(FumenFault::BadAction { place })),
-        Err(ActionFault::Outside) => Err(Refused::Fault(FumenFault::PieceOutside { page })),
+        Err(ActionFault::Outside) => Err(Refused::Fault(FumenFault::PieceOutside { page: number })),
     }
 }
 

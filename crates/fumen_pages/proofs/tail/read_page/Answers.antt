@@ -16,22 +16,22 @@ pair x = x
 pub returns-clause-within : goal.returns-clause-within
 returns-clause-within c =
     let ds = c.args.digits.now in
-    let read = page_at c.args.dialect c.args.cells.now c.args.page ds c.args.place in
-    gives_found pair (λ (f : FumenFault). f) (λ x. x.1 ≤ length ds) c.read_tail.result read (λ x e. (page_from_read c.args.dialect c.args.cells.now c.args.page ds c.args.place x.0 x.1 c.requires e).stands.stands.within) c.read_tail.ensures.exact
+    let read = page_at c.args.dialect c.args.cells.now c.args.number ds c.args.place in
+    gives_found pair (λ (f : FumenFault). f) (λ x. x.1 ≤ length ds) c.read_tail.result read (λ x e. (page_from_read c.args.dialect c.args.cells.now c.args.number ds c.args.place x.0 x.1 c.requires e).stands.stands.within) c.read_tail.ensures.exact
 
 pub returns-clause-inside : goal.returns-clause-inside
 returns-clause-inside c =
     let ds = c.args.digits.now in
     let dialect = c.args.dialect in
-    let read = page_at dialect c.args.cells.now c.args.page ds c.args.place in
-    gives_found pair (λ (f : FumenFault). f) (λ x. ForSome x.0.operation (λ placement. IsTrue (is_inside_in dialect placement))) c.read_tail.result read (λ x e. (page_from_read dialect c.args.cells.now c.args.page ds c.args.place x.0 x.1 c.requires e).inside) c.read_tail.ensures.exact
+    let read = page_at dialect c.args.cells.now c.args.number ds c.args.place in
+    gives_found pair (λ (f : FumenFault). f) (λ x. ForSome x.0.operation (λ placement. IsTrue (is_inside_in dialect placement))) c.read_tail.result read (λ x e. (page_from_read dialect c.args.cells.now c.args.number ds c.args.place x.0 x.1 c.requires e).inside) c.read_tail.ensures.exact
 
 pub returns-clause-cells : goal.returns-clause-cells
 returns-clause-cells c =
     let ds = c.args.digits.now in
     let cells = c.args.cells.now in
-    let read = page_at c.args.dialect cells c.args.page ds c.args.place in
-    gives_found pair (λ (f : FumenFault). f) (λ x. x.0.cells ≡ cells) c.read_tail.result read (λ x e. (page_from_read c.args.dialect cells c.args.page ds c.args.place x.0 x.1 c.requires e).same_cells) c.read_tail.ensures.exact
+    let read = page_at c.args.dialect cells c.args.number ds c.args.place in
+    gives_found pair (λ (f : FumenFault). f) (λ x. x.0.cells ≡ cells) c.read_tail.result read (λ x e. (page_from_read c.args.dialect cells c.args.number ds c.args.place x.0 x.1 c.requires e).same_cells) c.read_tail.ensures.exact
 
 pub returns-clause-found : goal.returns-clause-found
 returns-clause-found c = search (rules, gives_found, page_from_read)
