@@ -1,7 +1,7 @@
 -- What the words ask for lies in its ranges, and its table of offsets is read of a text.
 use Rattle.std.proofs.Common.{◌≡◌, ◌∙◌, ℕ, ◌≤◌, List, [], Option, Some, None, Result, Ok, Err, refl, ap, subst, rules}
 use Rattle.std.specs.Prelude.{IfOk, option_map, unwrap_or}
-use Rattle.std.specs.Option.{option_and_then}
+use Rattle.std.specs.Option.{ForSome, option_and_then}
 use Rattle.srs.specs.Kick.{Table, srs_table}
 use Rattle.kick_file.specs.declared.fault.KickFault.{KickFault}
 use Rattle.kick_file.specs.Reading.{kick_text, read_on}
@@ -15,7 +15,7 @@ use Rattle.pc_words.specs.Request.{Request, combo, cover, path, percent, selfrun
 use Rattle.pc_words.specs.Values.{page_count_in, page_in}
 use Rattle.pc_words.specs.declared.options.Values.{Values}
 use Rattle.pc_words.specs.declared.settings.Settings.{Settings}
-use Rattle.pc_words.specs.Views.{AsksInRange, HasNumber, settings_reading, settings_view}
+use Rattle.pc_words.specs.Views.{AsksInRange, settings_reading, settings_view}
 use Rattle.pc_words.specs.Words.{command_read, field_given, field_request, or_missing, request_in, request_of, request_where, request_with, selfrun_with, table_given, value_of, values_in, with_table, asked_in}
 
 abbrev IsBetween : ℕ → ℕ → ℕ → Type 0
@@ -53,8 +53,8 @@ asked_by : {A : Type 0} (pairs : List (List ℕ)) (make : A → Request) (found 
     → or_missing pairs (option_map make found) ≡ Ok request → Fits request
 asked_by pairs make found each request is = search rules
 
-number_given : (value : Option (List ℕ)) → HasNumber (option_and_then page_in value)
-number_given value = search rules
+number_given : (value : Option (List ℕ)) → ForSome (option_and_then page_in value) (λ number. 1 ≤ number)
+number_given value number is = search rules
 
 count_given : (value : Option (List ℕ)) (n : ℕ) → option_and_then page_count_in value ≡ Some n → IsBetween 1 10000 n
 count_given value n is = search rules

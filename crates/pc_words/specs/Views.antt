@@ -1,5 +1,6 @@
 -- How the settings, which lend texts of the words, are seen, and in which ranges they lie.
 use Rattle.std.specs.Prelude.{◌≡◌, ℕ, ◌+◌, ◌≤◌, List, length, Option, Some, None, Result, Ok, Err}
+use Rattle.std.specs.Option.{ForSome}
 use Rattle.srs.specs.Kick.{Table}
 use Rattle.srs.specs.Rules.{table_of}
 use Rattle.kick_file.specs.declared.fault.KickFault.{KickFault}
@@ -28,11 +29,7 @@ abbrev pub settings_reading : Result Settings Fault → Result Request Fault
 settings_reading (Ok settings) = Ok (settings_view settings)
 settings_reading (Err fault) = Err fault
 
--- pages are counted from 1
-abbrev pub HasNumber : Option ℕ → Type 0
-HasNumber None = Unit {0}
-HasNumber (Some page) = 1 ≤ page
-
+-- what is asked for lies in its ranges; pages are counted from 1
 abbrev pub AsksInRange : Request → Type 0
 AsksInRange (path request) = IsInRange request.common
 AsksInRange (percent request) = IsInRange request.common
@@ -40,7 +37,7 @@ AsksInRange (cover request) = IsInRange request
 AsksInRange (combo request) = 1 ≤ request.page
 AsksInRange decode = Unit {0}
 AsksInRange (encode dialect) = Unit {0}
-AsksInRange (show page) = HasNumber page
+AsksInRange (show page) = ForSome page (λ number. 1 ≤ number)
 AsksInRange (kicks read) = Unit {0}
 AsksInRange (selfrun number pages) = (1 ≤ pages) × (pages ≤ 10000)
 

@@ -1,5 +1,6 @@
 -- What the words ask for, or their first fault from the left. Behind the command stand pairs of a name and a value.
 use Rattle.std.specs.Prelude.{ℕ, ◌+◌, Bool, false, List, [], ◌∷◌, ◌++◌, length, map, Option, Some, None, is_some, option_map, unwrap_or, Result, Ok, Err, if◌then◌else◌, string_bytes}
+use Rattle.std.specs.Option.{option_or}
 use Rattle.std.specs.Str.{bytes_eq}
 use Rattle.std.specs.declared.string.String.{String}
 use Rattle.fumen_digits.specs.declared.dialect.Dialect.TheVariants.{V115}
@@ -61,17 +62,12 @@ option_fault before index (Some option) value =
 unfoldable pub pair_fault : Command → List (List ℕ) → List ℕ → Option (List ℕ) → Option WordsFault
 pair_fault command before name value = option_fault before (length before + 1) (option_of command name) value
 
--- the first of two faults
-abbrev pub or_fault : Option WordsFault → Option WordsFault → Option WordsFault
-or_fault None later = later
-or_fault (Some fault) later = Some fault
-
 -- the first fault of pairs, behind these pairs and the command
 unfoldable pub pairs_fault : Command → List (List ℕ) → List (List ℕ) → Option WordsFault
 pairs_fault command before [] = None
 pairs_fault command before (name ∷ []) = pair_fault command before name None
 pairs_fault command before (name ∷ value ∷ rest) =
-    or_fault (pair_fault command before name (Some value)) (pairs_fault command (before ++ name ∷ value ∷ []) rest)
+    option_or (pair_fault command before name (Some value)) (pairs_fault command (before ++ name ∷ value ∷ []) rest)
 
 -- the values that pairs give
 abbrev pub values_in : List (List ℕ) → Values

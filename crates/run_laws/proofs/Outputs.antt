@@ -2,6 +2,7 @@
 use Rattle.std.proofs.Common.{◌≡◌, ◌∙◌, ◌↔◌, ℕ, zero, suc, ◌-◌, ◌/◌, ◌<◌, ◌≤◌, Bool, true, false, not, ◌&&◌, ◌==◌, if◌then◌else◌, IsTrue, nat_lt, length, List, [], ◌∷◌, ◌++◌, Option, Some, None, Result, Ok, Err, refl, ap, sym, subst, arith, inl, inr, rules}
 use Rattle.std.specs.Prelude.{codes, slice_get}
 use Rattle.std.specs.List.{flat_map}
+use Rattle.std.specs.Option.{ForSome}
 use Rattle.std.proofs.lemmas.Bool.{and_parts, cases_Bool, ltb-true, ne_eqb}
 use Rattle.std.proofs.lemmas.Bool.Decides.{nat_tests}
 use Rattle.lane_board.specs.Field.{Field, rows_below}
@@ -72,7 +73,6 @@ use Rattle.pc_pages.specs.Output.{IsDecodeOutput, IsEncodeOutput, IsShowOutput, 
 use Rattle.pc_selfrun.specs.Lines.{selfrun_form}
 use Rattle.pc_selfrun.specs.Output.{IsSelfrunOutput}
 use Rattle.pc_selfrun.specs.Problem.{IsColumnProblem, column_field}
-use Rattle.pc_words.specs.Views.{HasNumber}
 use Rattle.run_laws.proofs.Problems.{Made, both_none, field_lies, problem-made, three_none}
 use Rattle.run_laws.proofs.Tables.{rules-made, srs_small}
 use Rattle.run_laws.proofs.Wells.{LiesInWell, well-made}
@@ -263,14 +263,14 @@ there [] k below = absurd (omega (arith, below))
 there (page ∷ pages) zero below = (page, refl)
 there (page ∷ pages) (suc k) below = there pages k (omega (arith, below))
 
-shown_of : (asked : Option ℕ) (pages : List Page) → HasNumber asked → page_fault asked pages ≡ None → Has (IsShown asked pages)
+shown_of : (asked : Option ℕ) (pages : List Page) → ForSome asked (λ number. 1 ≤ number) → page_fault asked pages ≡ None → Has (IsShown asked pages)
 shown_of None pages number none = record { output = shown_from 1 pages; is = refl }
 shown_of (Some asked) pages number none = elim (cases_Bool (nat_lt (length pages) asked)) [
   | inl past ↦
       let made : page_fault (Some asked) pages ≡ Some (faults.NoPage asked (length pages)) = rw past refl in
       let bad : Some (faults.NoPage asked (length pages)) ≡ None = sym made ∙ none in cc
   | inr within ↦
-      let below : asked - 1 < length pages = at_most (length pages) asked within number in
+      let below : asked - 1 < length pages = at_most (length pages) asked within (number asked refl) in
       let page = there pages (asked - 1) below in
       record { output = shown_page asked page.0; is = (page.0, page.1, refl) }
 ]
@@ -278,7 +278,7 @@ shown_of (Some asked) pages number none = elim (cases_Bool (nat_lt (length pages
     at_most : (count asked : ℕ) → nat_lt count asked ≡ false → 1 ≤ asked → asked - 1 < count
     at_most count asked within some = grind (arith, nat_tests, within, some)
 
-pub show_has : (asked : Option ℕ) (bytes : List ℕ) → HasNumber asked → text_fault asked bytes ≡ None → Has (IsShowOutput asked bytes)
+pub show_has : (asked : Option ℕ) (bytes : List ℕ) → ForSome asked (λ number. 1 ≤ number) → text_fault asked bytes ≡ None → Has (IsShowOutput asked bytes)
 show_has asked bytes number none =
     let has = has_pages asked bytes none in
     let shown = shown_of asked has.pages number has.shown in
