@@ -19,7 +19,7 @@ use Rattle.pc_source.specs.Sink.{SinkChange, sink_change}
 use Rattle.pc_source.specs.Task.{ForBytes, ForSomeBytes, HasBytes, Sees, Task, first_fault, reads_source}
 use Rattle.pc_source.specs.Work.{Works}
 use Rattle.pc_app.specs.Tasks.{task_of}
-use Rattle.pc_c.specs.Call.{EndsRun, ForFloods, TellsFault, WritesCut, WritesFront, WritesOutput, filled, seen}
+use Rattle.pc_c.specs.Call.{EndsRun, ForFloods, TellsFault, WritesCut, WritesFront, WritesOutput, holding, seen}
 use Rattle.pc_c.specs.Ended.{EndedBy, LeavesErr, LeavesOut}
 
 -- ---- what a sink over a slice holds
@@ -102,7 +102,7 @@ pub record Runs (task : Task) (input : List ℕ) (out : SliceSink) (floods : ℕ
 
 -- the change of a sink over a slice that held nothing
 abbrev pub change_of : SliceSink → SinkChange
-change_of out = filled (held_bytes (sink_view out)) out.faults
+change_of out = holding (held_bytes (sink_view out)) out.faults
 
 pub held_nothing : (old new : SliceSink) → (sink_view old).bytes ≡ [] → (sink_view old).missed ≡ [] → old.faults ≡ 0
     → sink_change true (Some (held_bytes (sink_view old))) (Some (held_bytes (sink_view new))) old.faults new.faults ≡ change_of new
@@ -111,10 +111,10 @@ held_nothing old new empty unmissed faults = search rules
 module _ (task : Task) (input : List ℕ) (out : SliceSink) (floods : ℕ) where
   works : (status : Status) (bytes : List ℕ) (failed : ℕ) → held_bytes (sink_view out) ≡ bytes → out.faults ≡ failed
       → ForSomeBytes task (Some input) (λ bytes. Works task (first_fault task bytes) bytes (change_of out) floods status)
-      → Works task (first_fault task (seen task input)) (seen task input) (filled bytes failed) floods status
+      → Works task (first_fault task (seen task input)) (seen task input) (holding bytes failed) floods status
   works status bytes failed held faults made =
       subst (λ (sink : SinkChange). Works task (first_fault task (seen task input)) (seen task input) sink floods status)
-      (ap (λ (l : List ℕ). filled l out.faults) held ∙ ap (filled bytes) faults)
+      (ap (λ (l : List ℕ). holding l out.faults) held ∙ ap (holding bytes) faults)
       (subst (λ (l : List ℕ). Works task (first_fault task l) l (change_of out) floods status) (saw task input made.bytes made.seen) made.holds)
 
   left_done : Runs task input out floods Done (change_of out)

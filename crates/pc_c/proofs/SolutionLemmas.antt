@@ -13,7 +13,7 @@ use Rattle.pc_solutions.specs.declared.list.Written.{Written}
 use Rattle.pc_solutions.specs.declared.solutions.Refusal.{Refusal}
 use Rattle.pc_solutions.specs.declared.solutions.Refusal.TheVariants as refusals
 use Rattle.pc_solutions.specs.declared.solutions.Refusal.TheVariants.{NoSequence, NoRoom, NoMemory}
-use Rattle.pc_solutions.specs.Asked.{HasNoRoom, HasNoSequence}
+use Rattle.pc_solutions.specs.Asked.{HasNoSequence, LacksSolutionRoom}
 use Rattle.pc_solutions.specs.Written.{WritesSolutions}
 use Rattle.pc_c.specs.Answered.{answer_of}
 use Rattle.pc_c.specs.Asked.{ForAsked}
@@ -38,7 +38,7 @@ module _ (words : List (List ℕ)) (input : List ℕ) (request : PathRequest)
       → IfOk result (λ w. w.size ≤ length after) → IfOk result (λ w. drop w.size after ≡ drop w.size before)
       → ((fault : Fault) → result ≡ Err (refusals.Fault fault) → path_fault request bytes ≡ Some fault)
       → (result ≡ Err NoSequence → HasNoSequence request bytes numbers)
-      → (result ≡ Err NoRoom → HasNoRoom request bytes numbers (length before))
+      → (result ≡ Err NoRoom → LacksSolutionRoom request bytes numbers (length before))
       → OnErr result (after ≡ before) → OnErr result (new ≡ old)
       → IsPathAnswer words input numbers before after (new - old) (answer_of result)
   path_answered numbers before after old new (Ok w) writes fits rest faulty unsequenced roomless kept idle =

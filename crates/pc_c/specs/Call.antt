@@ -30,8 +30,8 @@ abbrev pub seen : Task → List ℕ → List ℕ
 seen task input = if reads_source task then input else []
 
 -- a sink that held nothing and holds these bytes, after so many writes that failed
-abbrev pub filled : List ℕ → ℕ → SinkChange
-filled bytes failed = sink_change true (Some []) (Some bytes) 0 failed
+abbrev pub holding : List ℕ → ℕ → SinkChange
+holding bytes failed = sink_change true (Some []) (Some bytes) 0 failed
 
 -- This holds for the number of floods, of which a u64 tells so much: the number, or the greatest u64 where it is
 -- greater.
@@ -44,7 +44,7 @@ pub record ForFloods (told : ℕ) (Holds : ℕ → Type 0) : Type 0 where
 pub record WritesOutput (task : Task) (bytes written : List ℕ) (floods : ℕ) : Type 0 where
   pub none : first_fault task bytes ≡ None
   pub is_output : task.IsOutput bytes floods written
-  pub work : task.IsWork bytes (filled written 0) Done floods
+  pub work : task.IsWork bytes (holding written 0) Done floods
 
 -- No fault stands, and the output is longer than the room: its first bytes were written, as many as there is room for.
 -- The floods are those up to the byte that found none.
@@ -55,7 +55,7 @@ pub record WritesCut (task : Task) (bytes written : List ℕ) (room floods : ℕ
   pub longer : room < length output
   pub front : written ≡ take room output
   pub failed : ℕ
-  pub work : task.IsWork bytes (filled (take (room + 1) output) failed) SinkFault floods
+  pub work : task.IsWork bytes (holding (take (room + 1) output) failed) SinkFault floods
 
 -- the line of the first fault was written, or as many of its first bytes as there is room for
 pub record TellsFault (task : Task) (bytes told : List ℕ) (room : ℕ) : Type 0 where
@@ -69,7 +69,7 @@ pub record WritesFront (task : Task) (bytes written : List ℕ) (floods : ℕ) :
   pub front : (output : List ℕ) → task.IsOutput bytes floods output → (rest : List ℕ) × (output ≡ written ++ rest)
   pub first : task.memory_first ≡ true → written ≡ []
   pub faulty : (fault : Fault) → first_fault task bytes ≡ Some fault → written ≡ []
-  pub work : Works task (first_fault task bytes) bytes (filled written 0) floods NoMemory
+  pub work : Works task (first_fault task bytes) bytes (holding written 0) floods NoMemory
 
 -- What the status of a call says of these words and this input. There was so much room for what was written and for the
 -- line that was told, and the call tells so many floods.

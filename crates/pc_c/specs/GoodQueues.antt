@@ -2,7 +2,7 @@
 use Rattle.std.specs.Prelude.{◌≡◌, ◌≢◌, ℕ, List, true, ◌⊎◌}
 use Rattle.pc_words.specs.Request.{percent}
 use Rattle.pc_good_queues.specs.GoodQueues.{AreGoodQueues}
-use Rattle.pc_good_queues.specs.Refusals.{HasRoom, LacksRoom}
+use Rattle.pc_good_queues.specs.Refusals as refusals
 use Rattle.pc_c.specs.Asked.{ForAsked, TellsAskedFault}
 use Rattle.pc_c.specs.Call.{IsStatus}
 use Rattle.pc_c.specs.OtherCommand.{asks_other, is_percent}
@@ -18,11 +18,13 @@ WritesBits words input written count good =
 
 -- the bits of so many queues take more bytes than there is room for
 abbrev pub LacksBitRoom : (words : List (List ℕ)) (input : List ℕ) (room count : ℕ) → Type 0
-LacksBitRoom words input room count = ForAsked percent words input (λ request bytes. LacksRoom request.common room count)
+LacksBitRoom words input room count =
+    ForAsked percent words input (λ request bytes. refusals.LacksBitRoom request.common room count)
 
 -- there is room for the bits of all queues
 abbrev pub HasBitRoom : (words : List (List ℕ)) (input : List ℕ) (room : ℕ) → Type 0
-HasBitRoom words input room = ForAsked percent words input (λ request bytes. HasRoom request.common room)
+HasBitRoom words input room =
+    ForAsked percent words input (λ request bytes. refusals.HasBitRoom request.common room)
 
 -- What the status of a call says of these words and this input. There was so much room for what was written and for the
 -- line that was told, and the call tells so many queues, good ones and floods.

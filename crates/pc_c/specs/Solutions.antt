@@ -1,7 +1,8 @@
 -- What a call for solutions wrote, by its status.
 use Rattle.std.specs.Prelude.{◌≡◌, ◌≢◌, ℕ, ◌≤◌, ◌==◌, List, true, ◌⊎◌}
 use Rattle.pc_words.specs.Request.{path}
-use Rattle.pc_solutions.specs.Asked.{HasNoRoom, HasNoSequence}
+use Rattle.pc_solutions.specs.Asked as asked
+use Rattle.pc_solutions.specs.Asked.{HasNoSequence}
 use Rattle.pc_solutions.specs.Written.{WritesSolutions}
 use Rattle.pc_c.specs.Asked.{ForAsked, TellsAskedFault}
 use Rattle.pc_c.specs.Call.{ForFloods, IsStatus}
@@ -23,8 +24,9 @@ abbrev pub LacksSequence : (words : List (List ℕ)) (input numbers : List ℕ) 
 LacksSequence words input numbers = ForAsked path words input (λ request bytes. HasNoSequence request bytes numbers)
 
 -- there is not room for the numbers of one solution
-abbrev pub LacksRoom : (words : List (List ℕ)) (input numbers : List ℕ) (room : ℕ) → Type 0
-LacksRoom words input numbers room = ForAsked path words input (λ request bytes. HasNoRoom request bytes numbers room)
+abbrev pub LacksSolutionRoom : (words : List (List ℕ)) (input numbers : List ℕ) (room : ℕ) → Type 0
+LacksSolutionRoom words input numbers room =
+    ForAsked path words input (λ request bytes. asked.LacksSolutionRoom request bytes numbers room)
 
 -- What the status of a call says of these words, this input and these numbers. There was so much room for what was
 -- written and for the line that was told, and the call tells so many solutions and floods, and whether the list ends.
@@ -32,7 +34,7 @@ pub record EndsSolutions (words : List (List ℕ)) (input numbers : List ℕ) (r
     (count ended : ℕ) (told : List ℕ) (err_room floods status : ℕ) : Type 0 where
   pub done : status ≡ 0 → TellsSolutions words input numbers room written count ended floods
   pub faulty : status ≡ 2 → TellsAskedFault is_path words input told err_room
-  pub no_room : status ≡ 4 → LacksRoom words input numbers room
+  pub no_room : status ≡ 4 → LacksSolutionRoom words input numbers room
   pub no_sequence : status ≡ 8 → LacksSequence words input numbers
   pub other : status ≡ 7 → asks_other is_path words ≡ true
   pub other_ends : asks_other is_path words ≡ true → (status ≡ 5) ⊎ (status ≡ 7)

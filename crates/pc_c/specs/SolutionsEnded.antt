@@ -9,13 +9,13 @@ use Rattle.pc_c.specs.declared.answer.Answer.{Answer}
 use Rattle.pc_c.specs.Answered.{HasAskedFault, IsAnswer}
 use Rattle.pc_c.specs.Asked.{ForAsked}
 use Rattle.pc_c.specs.OtherCommand.{is_path}
-use Rattle.pc_c.specs.Solutions.{LacksRoom, LacksSequence}
+use Rattle.pc_c.specs.Solutions.{LacksSequence, LacksSolutionRoom}
 
 -- why there are no solutions
 abbrev pub IsPathRefusal : (words : List (List ℕ)) (input numbers : List ℕ) (room : ℕ) → Refusal → Type 0
 IsPathRefusal words input numbers room (Fault fault) = HasAskedFault is_path words input fault
 IsPathRefusal words input numbers room NoSequence = LacksSequence words input numbers
-IsPathRefusal words input numbers room NoRoom = LacksRoom words input numbers room
+IsPathRefusal words input numbers room NoRoom = LacksSolutionRoom words input numbers room
 IsPathRefusal words input numbers room NoMemory = Unit {0}
 
 -- an answer, what it left in the bytes that it was given, and its floods

@@ -18,12 +18,12 @@ pub record AsksQueues (request : FieldRequest) (count : ℕ) : Type 0 where
   pub all : count ≡ length (queues elements)
 
 -- the bits of so many queues take more bytes than there is room for
-pub record LacksRoom (request : FieldRequest) (room count : ℕ) : Type 0 where
+pub record LacksBitRoom (request : FieldRequest) (room count : ℕ) : Type 0 where
   pub asked : AsksQueues request count
   pub short : room < bytes_for count
 
 -- there is room for the bits of all queues
-pub record HasRoom (request : FieldRequest) (room : ℕ) : Type 0 where
+pub record HasBitRoom (request : FieldRequest) (room : ℕ) : Type 0 where
   pub count : ℕ
   pub asked : AsksQueues request count
   pub enough : bytes_for count ≤ room
@@ -34,7 +34,7 @@ pub record HasRoom (request : FieldRequest) (room : ℕ) : Type 0 where
 abbrev pub Refuses : PercentRequest → (bytes : List ℕ) → (room floods : ℕ) → NoBits → Type 0
 Refuses request bytes room floods (Fault fault) = (percent_fault request bytes ≡ Some fault) × (floods ≡ 0)
 Refuses request bytes room floods (NoRoom count) =
-    (percent_fault request bytes ≡ None) × LacksRoom request.common room count × (floods ≡ 0)
+    (percent_fault request bytes ≡ None) × LacksBitRoom request.common room count × (floods ≡ 0)
 Refuses request bytes room floods NoMemory =
     ((field_needs request.common.field ≢ nothing) × (floods ≡ 0))
-    ⊎ ((percent_fault request bytes ≡ None) × HasRoom request.common room)
+    ⊎ ((percent_fault request bytes ≡ None) × HasBitRoom request.common room)

@@ -39,14 +39,14 @@ pub record AsksAfter (request : PathRequest) (bytes numbers : List ℕ) (problem
   pub given : IsAfter (needed_of problem) numbers request.after after
 
 -- that stands, and there is not room for the numbers of one solution
-pub record HasNoRoom (request : PathRequest) (bytes numbers : List ℕ) (room : ℕ) : Type 0 where
+pub record LacksSolutionRoom (request : PathRequest) (bytes numbers : List ℕ) (room : ℕ) : Type 0 where
   pub problem : Problem
   pub after : Option (List Placement)
   pub asks : AsksAfter request bytes numbers problem after
   pub short : room < 4 * needed_of problem
 
 -- that stands, and there is room for them
-pub record HasRoom (request : PathRequest) (bytes numbers : List ℕ) (room : ℕ) : Type 0 where
+pub record HasSolutionRoom (request : PathRequest) (bytes numbers : List ℕ) (room : ℕ) : Type 0 where
   pub problem : Problem
   pub after : Option (List Placement)
   pub asks : AsksAfter request bytes numbers problem after

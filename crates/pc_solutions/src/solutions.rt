@@ -12,7 +12,7 @@ ghost use Rattle.pc_source.specs.FieldText.{field_needs};
 ghost use Rattle.pc_source.specs.Task.{nothing};
 ghost use Rattle.pc_path.specs.Output.{IsGiven};
 ghost use Rattle.pc_path.specs.PathTask.{path_fault};
-ghost use Rattle.pc_solutions.specs.Asked.{HasNoRoom, HasNoSequence, HasRoom, IsAfter};
+ghost use Rattle.pc_solutions.specs.Asked.{HasNoSequence, HasSolutionRoom, IsAfter, LacksSolutionRoom};
 ghost use Rattle.pc_solutions.specs.Written.{WritesSolutions};
 ghost use Rattle.pc_solutions.specs.declared.solutions.Refusal.{Refusal};
 
@@ -109,9 +109,9 @@ pub fn write_solutions<L: Ledger>(
         → path_fault (path_view settings.now) bytes.now ≡ Some fault }
     ensures no_sequence { result ≡ Err Refusal.NoSequence → HasNoSequence (path_view settings.now) bytes.now after.now }
     ensures no_room { result ≡ Err Refusal.NoRoom
-        → HasNoRoom (path_view settings.now) bytes.now after.now (length placements.old) }
+        → LacksSolutionRoom (path_view settings.now) bytes.now after.now (length placements.old) }
     ensures memory { result ≡ Err Refusal.NoMemory → (field_needs (path_view settings.now).common.field ≢ nothing)
-        ⊎ HasRoom (path_view settings.now) bytes.now after.now (length placements.old) }
+        ⊎ HasSolutionRoom (path_view settings.now) bytes.now after.now (length placements.old) }
     ensures quiet { OnErr result (placements.new ≡ placements.old) }
     ensures idle { OnErr result (steps.new ≡ steps.old) }
     ensures counted { steps.old ≤ steps.new }
