@@ -125,10 +125,8 @@ pub fn sequences_in(
     while !rest.is_empty() {
         let (line, behind) = first_line(rest);
         number += 1;
-        match read_line(&mut sequences, number, needed, line) {
-            Ok(()) => rest = behind,
-            Err(refused) => return Err(refused),
-        }
+        read_line(&mut sequences, number, needed, line)?;
+        rest = behind;
     }
     Ok(sequences)
 }

@@ -47,16 +47,14 @@ fn list_pages(alloc: Global, bytes: &[u8]) -> Result<Vec<Page>, Refused<Fault>>
 }
 
 /// The fumen text of the pages whose lines the bytes are. A refusal is the first fault, or that memory ran out.
+#[tactic(auto, using(std::proofs::lemmas::Result::err_from_is_err_and, fumen_digits::proofs::CallerLemmas::err_passed))]
 fn encoded(alloc: Global, dialect: Dialect, bytes: &[u8]) -> Result<Vec<u8>, Refused<Fault>>
     ensures text { IfOk result (λ text. IsEncodeOutput dialect bytes.now (text.items ++ 10 ∷ [])) }
     ensures none { OnOk result (encode_fault dialect bytes.now ≡ None) }
     ensures refused { IfErr result (λ refused. IsRefusedInput (encode_fault dialect bytes.now) refused) }
     ensures memory { result ≡ Err Refused.NoMemory → (f : ListFault) → IsListFault bytes.now f → 1 < f.line }
 {
-    let pages = match list_pages(alloc, bytes) {
-        Ok(pages) => pages,
-        Err(refused) => return Err(refused),
-    };
+    let pages = list_pages(alloc, bytes)?;
     match encode(alloc, dialect, &pages) {
         Ok(text) => Ok(text),
         Err(Refused::Fault(fault)) => Err(Refused::Fault(Fault::Encode(fault))),

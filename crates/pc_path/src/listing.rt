@@ -66,10 +66,7 @@ pub fn listing_of(
     ensures refused { IfErr result (λ refused. IsRefusedInput (path_fault (path_view settings.now) bytes.now) refused) }
     ensures memory { result ≡ Err Refused.NoMemory → field_needs (path_view settings.now).common.field ≢ nothing }
 {
-    let problem = match problem_asked(alloc, &settings.common, Dash::Source(bytes)) {
-        Ok(problem) => problem,
-        Err(refused) => return Err(refused),
-    };
+    let problem = problem_asked(alloc, &settings.common, Dash::Source(bytes))?;
     match given(needed(&problem), settings.after) {
         Ok(after) => Ok(Listing { problem, after }),
         Err(fault) => Err(Refused::Fault(fault)),

@@ -1,5 +1,5 @@
 -- The field that is asked about: there is one, and its faults are those of its text.
-use Rattle.std.proofs.Common.{◌≡◌, ◌≢◌, false, ℕ, ◌-◌, ◌≤◌, List, Some, None, Result, Ok, Err, ap, sym, subst, ◌∙◌, rules}
+use Rattle.std.proofs.Common.{◌≡◌, ◌≢◌, Bool, true, false, if◌then◌else◌, ℕ, ◌-◌, ◌≤◌, List, Some, None, Result, Ok, Err, refl, ap, sym, subst, ◌∙◌, rules}
 use Rattle.std.specs.Prelude.{slice_get}
 use Rattle.std.proofs.lemmas.Bool.{lt-ltb}
 use Rattle.std.proofs.lemmas.Option.{same_Some, slice_get_cases}
@@ -13,8 +13,8 @@ use Rattle.fumen_text.proofs.CallerLemmas.{read_from_text, text_from_read, one_l
 use Rattle.pc_faults.proofs.CallerLemmas.{none_first, none_last}
 use Rattle.pc_settings.specs.Request.{FieldText, rows_text, fumen_text}
 use Rattle.pc_source.specs.Faults.{asked_fault, cells_asked, cells_read, cells_shown, field_fault, page_fault, pages_fault, text_fault}
-use Rattle.pc_source.specs.FieldText.{DashText, field_needs, itself, of_source, page_cells, text_given, text_needs, IsPageField, IsFumenField, IsFieldOf}
-use Rattle.pc_source.specs.Task.{is_source, nothing}
+use Rattle.pc_source.specs.FieldText.{DashText, field_needs, is_dash, itself, of_source, page_cells, text_given, text_needs, IsPageField, IsFumenField, IsFieldOf}
+use Rattle.pc_source.specs.Task.{is_source, nothing, source_bytes}
 
 one_page_field : (pages : List Page) (number : ℕ) (F G : Field) → IsPageField pages number F → IsPageField pages number G → F ≡ G
 one_page_field pages number F G one other = one.cells ∙ ap page_cells (same_Some one.page other.page (sym one.there ∙ other.there)) ∙ sym other.cells
@@ -51,8 +51,16 @@ pub field_there : (field : FieldText) (number : ℕ) (meant : DashText) → 1 �
 field_there field number meant first none = search (rules, rows_text, fumen_text, asked_there)
 
 -- a fumen text that stands among the words needs no source
-pub text_not_source : (text : List ℕ) → is_source (text_needs text) ≡ false
+text_not_source : (text : List ℕ) → is_source (text_needs text) ≡ false
 text_not_source text = search rules
+
+-- of the words that give a fumen text only `-` needs the source
+pub dash_is_source : (word : List ℕ) → is_source (field_needs (fumen_text word)) ≡ is_dash word
+dash_is_source word = by (is_dash word)
+  where
+    by : (dash : Bool) → is_source (if dash then source_bytes else text_needs word) ≡ dash
+    by true = refl
+    by false = text_not_source word
 
 -- a fumen text with a prefix needs memory
 pub prefix_needs : (word : List ℕ) (meant : DashText) → digits_in (text_given word meant) ≢ None → field_needs (fumen_text word) ≢ nothing

@@ -105,6 +105,7 @@ fn problem_of(well: Well, settings: &FieldSettings<'_>) -> Result<Problem, Fault
 /// The problem that the settings name for the field that their words give. A refusal is that memory ran out, which only
 /// a fumen text takes, or the first fault of these: the text of the field, a cell at or above the height, a full row,
 /// the pattern, too few pieces at hand.
+#[tactic(auto, using(std::proofs::lemmas::Result::err_from_is_err_and, fumen_digits::proofs::CallerLemmas::err_passed))]
 pub fn problem_asked(
     alloc: Global,
     settings: &FieldSettings<'_>,
@@ -118,10 +119,7 @@ pub fn problem_asked(
     ensures memory { result ≡ Err Refused.NoMemory → field_needs (field_view settings.now).field ≢ nothing }
     ensures prefix { result ≡ Err Refused.NoMemory → HasPrefix (field_view settings.now).field (dash_view dash.entry) }
 {
-    let well = match field(alloc, settings.field, settings.page, dash) {
-        Ok(well) => well,
-        Err(refused) => return Err(refused),
-    };
+    let well = field(alloc, settings.field, settings.page, dash)?;
     match problem_of(well, settings) {
         Ok(problem) => Ok(problem),
         Err(fault) => Err(Refused::Fault(fault)),

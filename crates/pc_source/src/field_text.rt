@@ -53,16 +53,13 @@ pub fn field(
 }
 
 /// Whether the field is in the source's text.
-#[tactic(auto, using(crate::proofs::FieldLaws::text_not_source))]
+#[tactic(auto, using(crate::proofs::FieldLaws::dash_is_source))]
 pub fn is_of_source(words: FieldWords<'_>) -> bool
     ensures { result ≡ is_source (field_needs (text_view words.entry)) }
 {
     match words {
         FieldWords::Rows(_) => false,
-        FieldWords::Tetfu(word) => match word {
-            "-" => true,
-            _ => false,
-        },
+        FieldWords::Tetfu(word) => word == "-",
     }
 }
 
@@ -87,16 +84,14 @@ fn text_given<'a>(word: &'a str, dash: Dash<'a>) -> &'a [u8]
 }
 
 /// The field of this page of a fumen text.
+#[tactic(auto, using(std::proofs::lemmas::Result::err_from_is_err_and, fumen_digits::proofs::CallerLemmas::err_passed))]
 fn fumen_field(alloc: Global, text: &[u8], number: u32) -> Result<Well, Refused<Fault>>
     requires { 1 ≤ number }
     ensures field { IfOk result (λ well. HasFumenField text.now number (filled well)) }
     ensures refused { IfErr result (λ refused. IsRefusedInput (text_fault (Some number) text.now) refused) }
     ensures memory { result ≡ Err Refused.NoMemory → digits_in text.now ≢ None }
 {
-    let pages = match text_pages(alloc, text) {
-        Ok(pages) => pages,
-        Err(refused) => return Err(refused),
-    };
+    let pages = text_pages(alloc, text)?;
     match page_at(&pages, number) {
         Ok(page) => Ok(field_of(page)),
         Err(fault) => Err(Refused::Fault(fault)),

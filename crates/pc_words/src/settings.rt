@@ -178,31 +178,27 @@ pub fn settings_of(
     ensures { settings_reading result ≡ asked_in (request_of command (texts pairs.entry.now) values) }
 {
     match command {
-        Command::Path => match field_settings(pairs, values) {
-            Ok(common) => Ok(Settings::Path(path_settings(pairs, values, common))),
-            Err(fault) => Err(fault),
-        },
-        Command::Percent => match field_settings(pairs, values) {
-            Ok(common) => Ok(Settings::Percent(percent_settings(values, common))),
-            Err(fault) => Err(fault),
-        },
-        Command::Cover => match field_settings(pairs, values) {
-            Ok(common) => Ok(Settings::Cover(common)),
-            Err(fault) => Err(fault),
-        },
-        Command::Combo => match field_settings(pairs, values) {
-            Ok(common) => Ok(Settings::Combo(combo_settings(values, common))),
-            Err(fault) => Err(fault),
-        },
+        Command::Path => {
+            let common = field_settings(pairs, values)?;
+            Ok(Settings::Path(path_settings(pairs, values, common)))
+        }
+        Command::Percent => {
+            let common = field_settings(pairs, values)?;
+            Ok(Settings::Percent(percent_settings(values, common)))
+        }
+        Command::Cover => Ok(Settings::Cover(field_settings(pairs, values)?)),
+        Command::Combo => {
+            let common = field_settings(pairs, values)?;
+            Ok(Settings::Combo(combo_settings(values, common)))
+        }
         Command::Decode => Ok(Settings::Decode),
         Command::Encode => Ok(Settings::Encode {
             dialect: values.dialect.unwrap_or(Dialect::V115),
         }),
         Command::Show => Ok(Settings::Show { page: values.page }),
-        Command::Kicks => match rules_of(pairs) {
-            Ok(rules) => Ok(Settings::Kicks { rules }),
-            Err(fault) => Err(fault),
-        },
+        Command::Kicks => Ok(Settings::Kicks {
+            rules: rules_of(pairs)?,
+        }),
         Command::Selfrun => selfrun_settings(pairs, values),
     }
 }

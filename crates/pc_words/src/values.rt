@@ -16,10 +16,7 @@ const MOST_ROWS: u32 = 8;
 pub fn height_in(text: &str) -> Option<u8>
     ensures { result ≡ height_in text.now }
 {
-    match number_in(1, MOST_ROWS, text.as_bytes()) {
-        Some(height) => Some(height as u8),
-        None => None,
-    }
+    Some(number_in(1, MOST_ROWS, text.as_bytes())? as u8)
 }
 
 /// Whether pieces may be held: `use` or `avoid`.

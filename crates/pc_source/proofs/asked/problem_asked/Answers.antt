@@ -1,5 +1,6 @@
 -- The field is had, and then its problem.
 use Rattle.std.proofs.Common.{◌≡◌, ◌∙◌, None, sym, subst}
+use Rattle.std.proofs.lemmas.Result.{err_from_is_err_and}
 use Rattle.lane_board.specs.Field.{Field}
 use Rattle.well.specs.Well.{filled}
 use Rattle.problem.specs.declared.problem.Problem.{Problem}
@@ -22,18 +23,19 @@ has_problem request meant F problem has none named = record {
   named = subst (λ G. IsProblemOf request G problem) (sym named.field) named;
 }
 
+pub returns-in_err-well-clause-refused : goal.returns-in_err-well-clause-refused
+returns-in_err-well-clause-refused c =
+    let request = field_view c.args.settings.now in
+    let meant = dash_view c.args.dash in
+    let p = err_from_is_err_and c.from_residual.result c.from_residual.ensures.1 in
+    rw (p.1, p.2) (refusal_before (field_fault request.field request.page meant) (request_fault request meant) c.in_err-well.field-0.0
+    (field_stops request.field request.page meant (problem_fault request)) c.in_err-well.ensures.refused)
+
+pub returns-in-Ok-clause-problem : goal.returns-in-Ok-clause-problem
+returns-in-Ok-clause-problem c =
+    has_problem (field_view c.args.settings.now) (dash_view c.args.dash) (filled c.in_ok-well.well) c.in-Ok.problem c.in_ok-well.ensures.field c.in-Ok.ensures.none c.in-Ok.ensures.problem
+
 pub returns-in-Err-clause-refused : goal.returns-in-Err-clause-refused
 returns-in-Err-clause-refused c =
     let request = field_view c.args.settings.now in
-    let meant = dash_view c.args.dash in
-    refusal_before (field_fault request.field request.page meant) (request_fault request meant) c.in-Err.refused
-    (field_stops request.field request.page meant (problem_fault request)) c.in-Err.ensures.refused
-
-pub returns-in-Ok-problem_of-clause-problem : goal.returns-in-Ok-problem_of-clause-problem
-returns-in-Ok-problem_of-clause-problem c =
-    has_problem (field_view c.args.settings.now) (dash_view c.args.dash) (filled c.in-Ok.well) c.in-Ok-problem_of.problem c.in-Ok.ensures.field c.in-Ok-problem_of.ensures.none c.in-Ok-problem_of.ensures.problem
-
-pub returns-in-Err-problem_of-clause-refused : goal.returns-in-Err-problem_of-clause-refused
-returns-in-Err-problem_of-clause-refused c =
-    let request = field_view c.args.settings.now in
-    field_goes_on request.field request.page (dash_view c.args.dash) (problem_fault request) (filled c.in-Ok.well) c.in-Ok.ensures.field ∙ c.in-Err-problem_of.ensures.fault
+    field_goes_on request.field request.page (dash_view c.args.dash) (problem_fault request) (filled c.in_ok-well.well) c.in_ok-well.ensures.field ∙ c.in-Err.ensures.fault
