@@ -16,7 +16,8 @@ use Rattle.fumen_pages.specs.Cells.{IsColour, missing_count}
 use Rattle.fumen_pages.specs.Sound.{IsSound}
 use Rattle.fumen_pages.specs.declared.encode_fault.EncodeFault.{EncodeFault}
 use Rattle.fumen_pages.specs.declared.encode_fault.EncodeFault.TheVariants as fault
-use Rattle.fumen_text.specs.Texts.{ReadsAs, empty_page, most_pages}
+use Rattle.fumen_pages.specs.Lists.{most_pages}
+use Rattle.fumen_text.specs.Texts.{ReadsAs, empty_page}
 use Rattle.fumen_text.specs.Written.{is_short, list_encode_fault, page_encode_fault, pages_encode_fault}
 use Rattle.fumen_text.proofs.CallerLemmas.{spelled_sound}
 

@@ -3,9 +3,13 @@ use Rattle.std.specs.Prelude.{ℕ, List, map, take, drop, Bool, ◌==◌, slice_
 use Rattle.std.specs.List.{list_all, prefix_len}
 use Rattle.fumen_pages.specs.Next.{rows_in}
 
--- `_` for an empty cell, the letters of the pieces by their codes, and `X` for grey
+-- the letters of the colours: `_` for an empty cell, the letters of the pieces by their codes, and `X` for grey
+abbrev pub colour_letters : List ℕ
+colour_letters = codes "_ILOZTJSX"
+
+-- the letter of a colour
 unfoldable pub colour_letter : ℕ → ℕ
-colour_letter colour = slice_index (codes "_ILOZTJSX") colour
+colour_letter colour = slice_index colour_letters colour
 
 -- the letters of a page's cells, in the order of the cells
 abbrev pub letters_of : List ℕ → List ℕ

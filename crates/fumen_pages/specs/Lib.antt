@@ -1,5 +1,6 @@
 -- What a reader must believe
 pub mod Cells
+pub mod Lists
 pub mod Letters
 pub mod Action
 pub mod Sound

@@ -19,6 +19,6 @@ pub use inside::is_inside;
 pub use letters::{first_shown, is_blank, letters_of, row};
 pub use list_fault::{ListFault, ListKind};
 pub use next::{mark, next_cells};
-pub use page::Page;
+pub use page::{MOST_PAGES, Page};
 pub use record::{CellsFault, CellsRead, read_cells, write_cells};
 pub use tail::read_page;

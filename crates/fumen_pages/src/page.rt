@@ -1,6 +1,9 @@
-// One page of a fumen.
+// One page of a fumen, and how many pages a list may have.
 use fumen_comment::Comment;
 use srs::Placement;
+
+/// The most pages of one list.
+pub const MOST_PAGES: usize = 10_000;
 
 /// A page: its cells, and what is done on it.
 ///

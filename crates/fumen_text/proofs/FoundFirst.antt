@@ -10,7 +10,7 @@ use Rattle.fumen_pages.specs.Cells.{missing_count}
 use Rattle.fumen_pages.specs.Action.{is_inside_in}
 use Rattle.fumen_pages.specs.declared.encode_fault.EncodeFault.{EncodeFault}
 use Rattle.fumen_pages.specs.declared.encode_fault.EncodeFault.TheVariants as fault
-use Rattle.fumen_text.specs.Texts.{most_pages}
+use Rattle.fumen_pages.specs.Lists.{most_pages}
 use Rattle.fumen_text.specs.Written.{AreFewBefore, HasFewUnits, IsFoundFirst, list_encode_fault, page_encode_fault, pages_encode_fault}
 use Rattle.fumen_text.specs.Checking.{IsMeasured}
 use Rattle.fumen_text.proofs.WrittenIsRead.{IsCheckedSoFar, one_left}

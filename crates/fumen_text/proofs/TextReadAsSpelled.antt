@@ -12,7 +12,8 @@ use Rattle.fumen_digits.proofs.CallerLemmas.{bind_ok, bind_err, ok_bind, err_bin
 use Rattle.fumen_pages.specs.declared.page.Page.{Page}
 use Rattle.fumen_pages.specs.Cells.{AreCells, IsColour}
 use Rattle.fumen_text.specs.Spells.{SpellsFumen}
-use Rattle.fumen_text.specs.Texts.{ReadsAs, empty_page, most_pages}
+use Rattle.fumen_pages.specs.Lists.{most_pages}
+use Rattle.fumen_text.specs.Texts.{ReadsAs, empty_page}
 use Rattle.fumen_text.specs.Faults.{IsDigitsFault, IsTextFault, PagesStand}
 use Rattle.fumen_text.specs.Reading.{framed_pages, pages_at, pages_of_digits, text_pages}
 use Rattle.fumen_text.proofs.WholePages.{all_stands, stands_all, spells_from_whole, whole_from_spells, is_due-ended}

@@ -15,7 +15,8 @@ use Rattle.fumen_pages.specs.declared.page.Page.{Page}
 use Rattle.fumen_pages.specs.Cells.{IsColour, missing_count}
 use Rattle.fumen_pages.specs.Action.{is_inside_in}
 use Rattle.fumen_pages.specs.declared.encode_fault.EncodeFault.{EncodeFault}
-use Rattle.fumen_text.specs.Texts.{ReadsAs, empty_page, most_pages}
+use Rattle.fumen_pages.specs.Lists.{most_pages}
+use Rattle.fumen_text.specs.Texts.{ReadsAs, empty_page}
 use Rattle.fumen_text.specs.Written.{IsRefusedBy, HasTypes, IsWritable, is_short, list_encode_fault, page_encode_fault, pages_digits, pages_encode_fault, written}
 use Rattle.fumen_text.proofs.TextReadAsSpelled.{empty_sound}
 use Rattle.fumen_text.proofs.WrittenIsSpelled.{pages_are_digits, pages_spell}

@@ -13,7 +13,8 @@ use Rattle.fumen_pages.specs.Sound.{IsSound}
 use Rattle.fumen_pages.specs.Tail.{Tail}
 use Rattle.fumen_pages.specs.Faults.{IsRecordFault, IsTailFault}
 use Rattle.fumen_text.specs.Spells.{Then, SpellsCells}
-use Rattle.fumen_text.specs.Texts.{empty_page, most_pages}
+use Rattle.fumen_pages.specs.Lists.{most_pages}
+use Rattle.fumen_text.specs.Texts.{empty_page}
 
 -- ds spells these pages whole, which leave these cells, and so many pages promised
 unfoldable pub SpellsWhole : Dialect → List ℕ → ℕ → List Page → List ℕ → ℕ → List ℕ → Type 0

@@ -10,7 +10,8 @@ use Rattle.fumen_pages.specs.declared.record.CellsRead.{CellsRead}
 use Rattle.fumen_pages.specs.Next.{next}
 use Rattle.fumen_pages.specs.Reading.{record_at, page_at}
 use Rattle.fumen_text.specs.declared.page_reader.PageReader.{PageReader}
-use Rattle.fumen_text.specs.Texts.{empty_page, most_pages}
+use Rattle.fumen_pages.specs.Lists.{most_pages}
+use Rattle.fumen_text.specs.Texts.{empty_page}
 
 abbrev pub reader : ℕ → List ℕ → ℕ → PageReader
 reader place cells promised = record { place = place; cells = cells; promised = promised }

@@ -19,7 +19,8 @@ use Rattle.fumen_pages.specs.Sound.{IsSound}
 use Rattle.fumen_pages.specs.Written.{action_number_of, written_record}
 use Rattle.fumen_pages.specs.declared.encode_fault.EncodeFault.{EncodeFault}
 use Rattle.fumen_pages.specs.declared.encode_fault.EncodeFault.TheVariants as fault
-use Rattle.fumen_text.specs.Texts.{empty_page, most_pages}
+use Rattle.fumen_pages.specs.Lists.{most_pages}
+use Rattle.fumen_text.specs.Texts.{empty_page}
 
 -- ---- the digits
 

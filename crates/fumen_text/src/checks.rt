@@ -9,10 +9,9 @@ ghost use Rattle.pc_outside.specs.declared.answers.Refused.{Refused};
 ghost use Rattle.fumen_text.specs.Checking.{IsMeasured};
 ghost use Rattle.fumen_text.specs.Written.{IsFoundFirst, IsRefusedBy, HasTypes, IsWritable, is_short, list_encode_fault, page_encode_fault};
 
-use crate::pages::MOST_PAGES;
 use fumen_comment::{Comment, escape};
 use fumen_digits::Dialect;
-use fumen_pages::{EncodeFault, Page, is_inside};
+use fumen_pages::{EncodeFault, MOST_PAGES, Page, is_inside};
 use pc_outside::{NoMemory, Refused};
 use srs::Placement;
 use std::alloc::Global;

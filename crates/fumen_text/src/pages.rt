@@ -7,12 +7,9 @@ ghost use Rattle.fumen_text.specs.Reading.{is_due, pages_of_digits, next_page_at
 use crate::cells::cells_at;
 use crate::page_reader::PageReader;
 use fumen_digits::{Dialect, FumenFault};
-use fumen_pages::{Page, next_cells, read_page};
+use fumen_pages::{MOST_PAGES, Page, next_cells, read_page};
 use pc_outside::Refused;
 use std::alloc::Global;
-
-/// The most pages of one list.
-pub(crate) const MOST_PAGES: usize = 10_000;
 
 /// All pages of some digits.
 pub(crate) fn read_pages(

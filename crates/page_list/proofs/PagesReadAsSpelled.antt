@@ -5,6 +5,7 @@ use Rattle.std.proofs.lemmas.Bool.{cases_Bool}
 use Rattle.fumen_pages.specs.declared.page.Page.{Page}
 use Rattle.fumen_pages.specs.declared.list_fault.ListFault.{ListFault}
 use Rattle.fumen_pages.specs.declared.list_fault.ListKind.{ListKind}
+use Rattle.fumen_pages.specs.Lists.{most_pages}
 use Rattle.page_list.specs.ListReading.{lines_of, first_line, numbered, numbered_page, pages_from, pages_in}
 use Rattle.fumen_digits.specs.Reading.{◌>>=◌}
 use Rattle.page_list.specs.LineSpelling.{SpellsPage, IsFirstLine, SpellsFirst, none, more, SpellsPages, IsFaultBehind, IsListFault, Spelled}
@@ -44,23 +45,23 @@ numbered_err number read fault is = search (rules, same_fault)
 
 -- a page that was read as the line of a number
 record IsPageOf (number : ℕ) (line : List ℕ) (page : Page) : Type 0 where
-  few : number ≤ 10000
+  few : number ≤ most_pages
   spelled : SpellsPage line page
 
 page_is : (number : ℕ) (line : List ℕ) (page : Page) → numbered_page number line ≡ Ok page → IsPageOf number line page
 unfolding numbered_page
 page_is number line page is = search (rules, cases_Bool, nat_lt, ltb-false, line_spelled, numbered_ok)
 
-page_read : (number : ℕ) (line : List ℕ) (page : Page) → number ≤ 10000 → SpellsPage line page → numbered_page number line ≡ Ok page
+page_read : (number : ℕ) (line : List ℕ) (page : Page) → number ≤ most_pages → SpellsPage line page → numbered_page number line ≡ Ok page
 unfolding numbered_page
-page_read number line page few s = rw (le-ltb 10000 number few, spelled_line_read line page s) refl
+page_read number line page few s = rw (le-ltb most_pages number few, spelled_line_read line page s) refl
 
 -- the fault of a line behind so many pages
 record IsFaultOf (count : ℕ) (line : List ℕ) (fault : ListFault) : Type 0 where
   number : fault.line ≡ count + 1
   kind : IsFaultBehind count line fault.kind
 
-faulty : (count : ℕ) (line : List ℕ) (fault : ListFault) → count ≤ 10000 → numbered_page (count + 1) line ≡ Err fault → IsFaultOf count line fault
+faulty : (count : ℕ) (line : List ℕ) (fault : ListFault) → count ≤ most_pages → numbered_page (count + 1) line ≡ Err fault → IsFaultOf count line fault
 unfolding numbered_page
 faulty count line fault most is =
     search (rules, cases_Bool, nat_lt, ltb-true, same_fault, ltb-false, numbered_err, line_fault)
@@ -90,10 +91,10 @@ same_pages one other e = cc
 
 -- the pages that lines were read as
 record AreSpelled (count : ℕ) (text : List ℕ) (pages : List Page) : Type 0 where
-  most : count + length pages ≤ 10000
+  most : count + length pages ≤ most_pages
   spelled : SpellsFirst text pages []
 
-spelled_from : (lines : List (List ℕ)) (count : ℕ) (text : List ℕ) (pages : List Page) → count ≤ 10000 → lines_of text ≡ lines → pages_from (count + 1) lines ≡ Ok pages → AreSpelled count text pages
+spelled_from : (lines : List (List ℕ)) (count : ℕ) (text : List ℕ) (pages : List Page) → count ≤ most_pages → lines_of text ≡ lines → pages_from (count + 1) lines ≡ Ok pages → AreSpelled count text pages
 unfolding pages_from
 spelled_from [] count text pages most whole is =
     subst (AreSpelled count text) (same_pages [] pages is) (subst (λ t. AreSpelled count t []) (sym (no_lines text whole)) (record { most = omega (arith, most); spelled = none }))
@@ -115,7 +116,7 @@ record HasFault (count : ℕ) (text : List ℕ) (fault : ListFault) : Type 0 whe
   first : IsFirstLine rest line behind
   is : IsFaultOf (count + length pages) line fault
 
-fault_from : (lines : List (List ℕ)) (count : ℕ) (text : List ℕ) (fault : ListFault) → count ≤ 10000 → lines_of text ≡ lines → pages_from (count + 1) lines ≡ Err fault → HasFault count text fault
+fault_from : (lines : List (List ℕ)) (count : ℕ) (text : List ℕ) (fault : ListFault) → count ≤ most_pages → lines_of text ≡ lines → pages_from (count + 1) lines ≡ Err fault → HasFault count text fault
 unfolding pages_from
 fault_from [] count text fault most whole is = cc
 fault_from (line ∷ lines) count text fault most whole is =
@@ -155,7 +156,7 @@ in_front : (page : Page) (pages : List Page) (read : Read) → (behind pages rea
 in_front page pages read = search rules
 
 -- pages are read up to what stands behind them
-read_on : (text rest : List ℕ) (pages : List Page) (count : ℕ) → SpellsFirst text pages rest → count + length pages ≤ 10000
+read_on : (text rest : List ℕ) (pages : List Page) (count : ℕ) → SpellsFirst text pages rest → count + length pages ≤ most_pages
     → pages_from (count + 1) (lines_of text) ≡ behind pages (pages_from (count + length pages + 1) (lines_of rest))
 unfolding pages_from
 read_on text rest [] count none few = search (rules, from_start)

@@ -19,6 +19,7 @@ use Rattle.fumen_pages.specs.Next.{rows_in}
 use Rattle.fumen_pages.specs.Sound.{IsSound}
 use Rattle.fumen_pages.proofs.CallerLemmas.{pivot_inside_in, page_row_count-most, flat, length-rows_in, flat-rows_in}
 use Rattle.fumen_pages.specs.Letters.{colour_letter, letters_of, is_blank, shown_rows, garbage_row}
+use Rattle.fumen_pages.specs.Lists.{most_pages}
 use Rattle.page_list.specs.Divided.{Four}
 use Rattle.page_list.specs.PrintedLine.{garbage_form, rows_form, operation_form, flags_form, comment_form, page_form}
 use Rattle.page_list.specs.LineSpelling.{IsPageRow, SpellsGarbage, left_out, written, SpellsLineCells, SpellsLineOperation, SpellsLineComment, SpellsPage, IsFirstLine, newline, SpellsFirst, none, more, SpellsPages}
@@ -191,5 +192,5 @@ printed_lines dialect (page ∷ pages) sound fits =
     let text : page_form page ++ rest ≡ line_of page ++ 10 ∷ rest = ap (λ (l : List ℕ). l ++ rest) (page_line page) ∙ append_assoc (line_of page) (10 ∷ []) rest in
     subst (λ t. SpellsFirst t (page ∷ pages) []) (sym text) (more (ended (line_of page) rest one.high) one.spells others)
 
-pub printed_pages : (dialect : Dialect) (pages : List Page) → length pages ≤ 10000 → All (IsSound dialect) pages → All (λ page. HasUnits page.comment) pages → SpellsPages (flat_map page_form pages) pages
+pub printed_pages : (dialect : Dialect) (pages : List Page) → length pages ≤ most_pages → All (IsSound dialect) pages → All (λ page. HasUnits page.comment) pages → SpellsPages (flat_map page_form pages) pages
 printed_pages dialect pages most sound fits = record { most = most; spelled = printed_lines dialect pages sound fits }

@@ -1,9 +1,10 @@
 -- The first field of a page's line: the cells.
-use Rattle.std.specs.Prelude.{ℕ, ◌+◌, ◌-◌, nat_le, List, [], ◌∷◌, ◌++◌, length, take, drop, replicate, position, codes, ◌==◌, if◌then◌else◌, Option, Some, None, option_and_then}
+use Rattle.std.specs.Prelude.{ℕ, ◌+◌, ◌-◌, nat_le, List, [], ◌∷◌, ◌++◌, length, take, drop, replicate, position, ◌==◌, if◌then◌else◌, Option, Some, None, option_and_then}
+use Rattle.fumen_pages.specs.Letters.{colour_letters}
 
--- the colour of a letter: `_` is 0, the capitals of the pieces are their codes, and `X` is 8
+-- the colour of a letter
 abbrev pub colour_in : ℕ → Option ℕ
-colour_in letter = position (λ c. c == letter) (codes "_ILOZTJSX")
+colour_in letter = position (λ c. c == letter) colour_letters
 
 -- the text before the first such byte, and the text behind it
 unfoldable pub cut_at : ℕ → List ℕ → Option (List ℕ × List ℕ)

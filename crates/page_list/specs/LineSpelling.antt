@@ -10,6 +10,7 @@ use Rattle.fumen_pages.specs.declared.list_fault.ListFault.{ListFault}
 use Rattle.fumen_pages.specs.declared.list_fault.ListKind.{ListKind}
 use Rattle.fumen_pages.specs.declared.list_fault.ListKind.TheVariants.{TooManyPages, BadLine, BadCells, BadOperation, BadFlags, BadComment}
 use Rattle.fumen_pages.specs.Letters.{letters_of}
+use Rattle.fumen_pages.specs.Lists.{most_pages}
 use Rattle.page_list.specs.Divided.{Four, IsDivided}
 use Rattle.page_list.specs.PrintedLine.{flags_form}
 
@@ -94,7 +95,7 @@ pub data SpellsFirst : List ℕ → List Page → List ℕ → Type 0 where
 
 -- up to 10,000 pages, a line for each
 pub record SpellsPages (text : List ℕ) (pages : List Page) : Type 0 where
-  pub most : length pages ≤ 10000
+  pub most : length pages ≤ most_pages
   pub spelled : SpellsFirst text pages []
 
 -- a text spells something, or nothing
@@ -120,7 +121,7 @@ IsLineFault line BadComment =
 
 -- behind 10,000 pages a line is too many, whatever it holds
 abbrev pub IsFaultBehind : ℕ → List ℕ → ListKind → Type 0
-IsFaultBehind count line kind = ((count ≡ 10000) × (kind ≡ TooManyPages)) ⊎ ((count < 10000) × IsLineFault line kind)
+IsFaultBehind count line kind = ((count ≡ most_pages) × (kind ≡ TooManyPages)) ⊎ ((count < most_pages) × IsLineFault line kind)
 
 -- lines that spell pages stand before the first line with a fault, which is counted from 1
 pub record IsListFault (text : List ℕ) (fault : ListFault) : Type 0 where

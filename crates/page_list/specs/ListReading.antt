@@ -6,6 +6,7 @@ use Rattle.fumen_pages.specs.declared.page.Page.{Page}
 use Rattle.fumen_pages.specs.declared.list_fault.ListFault.{ListFault}
 use Rattle.fumen_pages.specs.declared.list_fault.ListKind.{ListKind}
 use Rattle.fumen_pages.specs.declared.list_fault.ListKind.TheVariants.{TooManyPages}
+use Rattle.fumen_pages.specs.Lists.{most_pages}
 use Rattle.page_list.specs.CellsReading.{cut_at}
 use Rattle.page_list.specs.LineReading.{line_in}
 use Rattle.fumen_digits.specs.Reading.{◌>>=◌}
@@ -33,7 +34,7 @@ numbered number (Err kind) = Err (record { line = number; kind = kind })
 -- the page of the line of this number, counted from 1: a line behind 10,000 others is too many
 unfoldable pub numbered_page : ℕ → List ℕ → Result Page ListFault
 numbered_page number line =
-    if nat_lt 10000 number then Err (record { line = number; kind = TooManyPages }) else numbered number (line_in line)
+    if nat_lt most_pages number then Err (record { line = number; kind = TooManyPages }) else numbered number (line_in line)
 
 -- the pages of lines of which the first has this number, or the first fault
 unfoldable pub pages_from : ℕ → List (List ℕ) → Result (List Page) ListFault

@@ -8,6 +8,7 @@ ghost use Rattle.fumen_pages.specs.Cells.{AreCells};
 ghost use Rattle.fumen_pages.specs.Sound.{IsSound};
 ghost use Rattle.fumen_pages.specs.declared.page.Page.{Page};
 ghost use Rattle.fumen_pages.specs.declared.list_fault.ListFault.{ListFault};
+ghost use Rattle.fumen_pages.specs.Lists.{most_pages};
 ghost use Rattle.page_list.specs.PrintedLine.{page_form};
 ghost use Rattle.page_list.specs.LineSpelling.{HasLines, IsFirstLine, IsListFault, Spelled, SpellsPages};
 ghost use Rattle.page_list.specs.ListReading.{first_line, lines_of, pages_in};
@@ -40,7 +41,7 @@ pub fn a_text_spells_pages_or_has_a_fault()
 /// The lines that `print_page` writes, one after the other, spell their pages: up to 10,000 pages of a dialect, with
 /// comments of units of 16 bits.
 pub fn printed_lines_spell_their_pages()
-    ensures { (dialect : Dialect) (pages : List Page) → length pages ≤ 10000 → All (IsSound dialect) pages →
+    ensures { (dialect : Dialect) (pages : List Page) → length pages ≤ most_pages → All (IsSound dialect) pages →
         All (λ page. HasUnits page.comment) pages → SpellsPages (flat_map page_form pages) pages }
 {}
 

@@ -2,6 +2,7 @@
 ghost use Rattle.std.specs.Prelude.{◌≡◌, ◌≢◌, ◌<◌, ◌≤◌, [], IsOk, IfOk, List, Ok, Err};
 ghost use Rattle.fumen_pages.specs.declared.page.Page.{Page};
 ghost use Rattle.fumen_pages.specs.declared.list_fault.ListFault.{ListFault};
+ghost use Rattle.fumen_pages.specs.Lists.{most_pages};
 ghost use Rattle.page_list.specs.LineSpelling.{IsListFault, SpellsPages};
 ghost use Rattle.page_list.specs.ListReading.{HasFirstPage, first_line, numbered_page, pages_in, without_return};
 ghost use Rattle.fumen_digits.specs.ReadResults.{Gives};
@@ -9,7 +10,7 @@ ghost use Rattle.pc_outside.specs.declared.answers.Refused.{Refused};
 
 use crate::cells::cut_at;
 use crate::reading::read_line;
-use fumen_pages::{ListFault, ListKind, Page};
+use fumen_pages::{ListFault, ListKind, MOST_PAGES, Page};
 use pc_outside::Refused;
 use std::alloc::Global;
 
@@ -41,10 +42,10 @@ pub fn first_line(text: &[u8]) -> (&[u8], &[u8])
 #[tactic(auto, unfolding(crate::specs::ListReading::numbered_page))]
 fn page_at(alloc: Global, number: u32, line: &[u8]) -> Result<Page, Refused<ListFault>>
     ensures exact { Gives (λ page. page) (λ fault. fault) result (numbered_page number line.now) }
-    ensures few { IfOk result (λ _. number ≤ 10000) }
+    ensures few { IfOk result (λ _. number ≤ most_pages) }
     ensures memory { result ≡ Err Refused.NoMemory → IsOk (numbered_page number line.now) }
 {
-    if number > 10_000 {
+    if number as usize > MOST_PAGES {
         return Err(Refused::Fault(ListFault {
             line: number,
             kind: ListKind::TooManyPages,

@@ -3,6 +3,7 @@ ghost use Rattle.std.specs.Prelude.{◌≡◌, ◌≢◌, ◌≤◌, All, None, 
 ghost use Rattle.fumen_digits.specs.Framing.{digits_in};
 ghost use Rattle.pc_faults.specs.declared.status.Status.{Status};
 ghost use Rattle.std.specs.Option.{ForSome};
+ghost use Rattle.fumen_pages.specs.Lists.{most_pages};
 ghost use Rattle.pc_outside.specs.Counts.{HasCause};
 ghost use Rattle.pc_outside.specs.Writes.{WritesAll};
 ghost use Rattle.pc_source.specs.Statuses.{IsAnswered};
@@ -43,7 +44,7 @@ pub fn run_show<O: Sink>(alloc: Global, asked: Option<u32>, bytes: &[u8], out: &
 /// Writes all pages as rows of letters, one after the other, with their numbers from 1.
 fn show_all<O: Sink>(out: &mut O, pages: &[Page]) -> Result<(), Failed>
     requires showable { All IsShowable pages.now }
-    requires few { length pages.now ≤ 10000 }
+    requires few { length pages.now ≤ most_pages }
     ensures written { WritesAll (O.written out.old) (O.written out.new) result (shown_from 1 pages.now) }
     ensures cause { HasCause O.counts_failures_alone (O.faults out.old) (O.faults out.new) result }
 {

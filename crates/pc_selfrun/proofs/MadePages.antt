@@ -16,7 +16,7 @@ use Rattle.fumen_pages.specs.Sound.{IsSound}
 use Rattle.fumen_pages.proofs.CallerLemmas.{next_cells_sound}
 use Rattle.fumen_pages.specs.declared.encode_fault.EncodeFault.{EncodeFault}
 use Rattle.fumen_pages.specs.declared.encode_fault.EncodeFault.TheVariants as fault
-use Rattle.fumen_text.specs.Texts.{most_pages}
+use Rattle.fumen_pages.specs.Lists.{most_pages}
 use Rattle.fumen_text.specs.Written.{HasTypes, is_short, list_encode_fault, page_encode_fault, pages_encode_fault}
 use Rattle.sample_pages.specs.Pages.{page_drawn, pages_drawn, sample_pages, state_behind}
 use Rattle.sample_pages.proofs.CallerLemmas.{IsShortComment, comment_drawn-short, empty_sound, length-pages_drawn, page_drawn-sound}

@@ -1,5 +1,6 @@
 // One page of a list of pages, and its field.
 ghost use Rattle.std.specs.Prelude.{◌≡◌, ◌-◌, ◌≤◌, length, slice_get, Some, None, IfOk, IfErr, OnOk};
+ghost use Rattle.fumen_pages.specs.Lists.{most_pages};
 ghost use Rattle.well.specs.Well.{filled};
 ghost use Rattle.pc_source.specs.Faults.{page_fault};
 ghost use Rattle.pc_source.specs.FieldText.{page_cells};
@@ -11,7 +12,7 @@ use well::Well;
 /// The page with this number, counted from 1. The list has at most 10,000 pages. A refusal says that there is no such
 /// page.
 pub fn page_at(pages: &[Page], asked: u32) -> Result<&Page, Fault>
-    requires few { length pages.now ≤ 10000 }
+    requires few { length pages.now ≤ most_pages }
     requires asked { 1 ≤ asked }
     ensures page { IfOk result (λ page. slice_get pages.entry.now (asked - 1) ≡ Some page.now) }
     ensures none { OnOk result (page_fault (Some asked) pages.entry.now ≡ None) }

@@ -1,5 +1,6 @@
 // The pages of a fumen text.
 ghost use Rattle.std.specs.Prelude.{All, ◌≡◌, ◌≢◌, ◌≤◌, vec_len, None, Err, IfOk, IfErr};
+ghost use Rattle.fumen_pages.specs.Lists.{most_pages};
 ghost use Rattle.pc_outside.specs.declared.answers.Refused.{Refused};
 ghost use Rattle.fumen_digits.specs.Framing.{digits_in};
 ghost use Rattle.fumen_text.specs.Reading.{text_pages};
@@ -16,7 +17,7 @@ use std::alloc::Global;
 pub fn text_pages(alloc: Global, text: &[u8]) -> Result<Vec<Page>, Refused<Fault>>
     ensures pages { IfOk result (λ pages. HasText text.now pages.items) }
     ensures showable { IfOk result (λ pages. All IsShowable pages.items) }
-    ensures few { IfOk result (λ pages. vec_len pages ≤ 10000) }
+    ensures few { IfOk result (λ pages. vec_len pages ≤ most_pages) }
     ensures refused { IfErr result (λ refused. IsRefusedInput (pages_fault (text_pages text.now)) refused) }
     ensures memory { result ≡ Err Refused.NoMemory → digits_in text.now ≢ None }
 {

@@ -11,7 +11,8 @@ use moves::DropMode;
 use pc_settings::Format;
 use srs::Piece;
 
-/// The most pages of a list, and so the greatest number of a page.
+/// The most pages of a list, and so the greatest number of a page: the `MOST_PAGES` of `fumen_pages`, on which this
+/// crate doesn't stand.
 const MOST_PAGES: u32 = 10_000;
 
 /// The most sequences that may be written.

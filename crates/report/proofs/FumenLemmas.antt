@@ -14,7 +14,7 @@ use Rattle.moves.proofs.CallerLemmas.{place-free}
 use Rattle.fumen_digits.specs.declared.dialect.Dialect.TheVariants.{V115}
 use Rattle.fumen_pages.specs.declared.page.Page.{Page}
 use Rattle.fumen_pages.specs.Next.{next}
-use Rattle.fumen_text.specs.Texts.{most_pages}
+use Rattle.fumen_pages.specs.Lists.{most_pages}
 use Rattle.fumen_text.specs.Written.{list_encode_fault}
 use Rattle.report.specs.Forms.{KeysOf, key_part}
 use Rattle.report.specs.FumenLine.{placement_pages, placing_page, sequence_pages}

@@ -28,7 +28,8 @@ use Rattle.fumen_pages.specs.Next.{rows_in, rows_of, cells_of_rows, operation_fi
 use Rattle.fumen_pages.proofs.CallerLemmas.{flat, flat-rows_in, next_cells_sound}
 use Rattle.fumen_pages.specs.declared.encode_fault.EncodeFault.{EncodeFault}
 use Rattle.fumen_pages.specs.declared.encode_fault.EncodeFault.TheVariants as fault
-use Rattle.fumen_text.specs.Texts.{empty_page, most_pages}
+use Rattle.fumen_pages.specs.Lists.{most_pages}
+use Rattle.fumen_text.specs.Texts.{empty_page}
 use Rattle.fumen_text.specs.Written.{HasTypes, is_short, list_encode_fault, page_encode_fault, pages_encode_fault}
 use Rattle.report.specs.Forms.{KeysOf}
 use Rattle.report.specs.FumenLine.{grey_cells, grey_row, grey_rows, keys_comment, left_after, placement_pages, placing_page, sequence_pages}

@@ -4,6 +4,7 @@ ghost use Rattle.fumen_digits.specs.declared.dialect.Dialect.TheVariants.{V115};
 ghost use Rattle.fumen_pages.specs.Action.{is_inside_in};
 ghost use Rattle.fumen_pages.specs.Cells.{AreCells};
 ghost use Rattle.fumen_pages.specs.Sound.{IsSound};
+ghost use Rattle.fumen_pages.specs.Lists.{most_pages};
 ghost use Rattle.sample_pages.specs.Pages.{cells_drawn, column_drawn, comment_drawn, has_comment, operation_drawn, page_drawn, sample_pages, state_behind};
 
 use crate::draws::{draw, state_after_draws};
@@ -106,7 +107,7 @@ fn state_behind(state: u64) -> u64
 /// only refusal is that memory runs out.
 pub fn sample_of(alloc: Global, number: u32, pages: u32) -> Result<Sample, NoMemory>
     requires least { 1 ≤ pages }
-    requires most { pages ≤ 10000 }
+    requires most { pages ≤ most_pages }
     ensures pages { IfOk result (λ sample. sample.pages.items ≡ sample_pages number pages) }
     ensures sound { IfOk result (λ sample. All (IsSound V115) sample.pages.items) }
     ensures column { IfOk result (λ sample. sample.column ≡ column_drawn number pages) }
@@ -130,7 +131,7 @@ pub fn sample_of(alloc: Global, number: u32, pages: u32) -> Result<Sample, NoMem
 /// This many pages from a number, each sound in the dialect of 23 rows. The only refusal is that memory runs out.
 pub fn sample_pages(alloc: Global, number: u32, pages: u32) -> Result<Vec<Page>, NoMemory>
     requires least { 1 ≤ pages }
-    requires most { pages ≤ 10000 }
+    requires most { pages ≤ most_pages }
     ensures pages { IfOk result (λ made. made.items ≡ sample_pages number pages) }
     ensures sound { IfOk result (λ made. All (IsSound V115) made.items) }
 {
