@@ -5,11 +5,12 @@ use moves::DropMode;
 use reach::{Places, Steps, places};
 use srs::{Piece, Placement, Rules};
 use std::alloc::{AllocError, Global};
+use std::io::{self, ErrorKind};
 use std::sync::ledger::Ledger;
 use well::Well;
 
 /// An empty well, an opener of four rows, and a high ragged stack with holes and overhangs.
-pub(crate) const FIELDS: [&[u8]; 3] = [
+const FIELDS: [&[u8]; 3] = [
     b"",
     b"XX______XX/XXX____XXX/XXXX__XXXX/XXX___XXXX",
     b"X_________/XX_______X/XX____X_XX/XXX___XXXX/XX____XXXX/XXX__XXXXX/XX_X__XXXX/XXXX__X_XX/XXX__XXXXX/XXXX_XXXXX/X_XXX_XXXX/XXXX__XXXX",
@@ -17,6 +18,18 @@ pub(crate) const FIELDS: [&[u8]; 3] = [
 
 /// How many ragged or played fields there are.
 const COUNT: u32 = 512;
+
+/// The fixed fields.
+pub(crate) fn fixed_fields(alloc: Global) -> io::Result<Vec<Well>> {
+    let mut wells = Vec::new(alloc);
+    for field in FIELDS {
+        let Ok(well) = Well::from_rows(field) else {
+            return Err(io::Error::from(ErrorKind::InvalidData));
+        };
+        wells.push(well)?;
+    }
+    Ok(wells)
+}
 
 /// A generator of numbers that look random.
 #[derive(Drop)]

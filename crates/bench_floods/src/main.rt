@@ -8,7 +8,7 @@ ghost use Rattle.well.specs.LockLaws.{LiesBelow};
 
 mod fields;
 
-use fields::{FIELDS, played_fields, ragged_fields};
+use fields::{fixed_fields, played_fields, ragged_fields};
 use moves::DropMode;
 use reach::{Places, Steps, is_low, places, window_places};
 use srs::{Piece, Placement, Rules};
@@ -24,10 +24,17 @@ const MODES: [DropMode; 2] = [DropMode::Soft, DropMode::Hard];
 #[derive(Clone, Copy)]
 struct Task {
     rounds: u32,
-    is_played: bool,
+    fields: Fields,
     rows: u32,
     mode: DropMode,
     look: Look,
+}
+
+/// Which low fields are flooded.
+#[derive(Clone, Copy)]
+enum Fields {
+    Ragged,
+    Played,
 }
 
 /// What is done with a flood.
@@ -42,9 +49,9 @@ fn main(rt: HostRuntime) -> io::Result<()> {
     let words: Vec<String> = env::args(&rt)?.skip(1).collect(rt.alloc())?;
     let rounds = number(words.first());
     let sum = if words.len() < 2 {
-        flooded::<Brand>(Blank::new(1), rounds)
+        flooded::<Brand>(Blank::new(1), &fixed_fields(rt.alloc())?, rounds)
     } else {
-        low_flooded::<Brand>(Blank::new(1), rt.alloc(), task_of(&words))?
+        low_flooded::<Brand>(Blank::new(1), rt.alloc(), task_of(words.as_slice()))?
     };
     println!(rt; "{sum}")
 }
@@ -52,10 +59,14 @@ fn main(rt: HostRuntime) -> io::Result<()> {
 /// What the words after the number of rounds ask for: `ragged` or `played` fields, their number of rows, `soft` or
 /// `hard`, and what is done with each flood. `first` looks at one placement, `list` takes all, and `rules` looks at one
 /// by the call that tests the table first.
-fn task_of(words: &Vec<String>) -> Task {
+fn task_of(words: &[String]) -> Task {
     Task {
         rounds: number(words.first()),
-        is_played: is_word(words.get(1), "played"),
+        fields: if is_word(words.get(1), "played") {
+            Fields::Played
+        } else {
+            Fields::Ragged
+        },
         rows: number(words.get(2)),
         mode: if is_word(words.get(3), "hard") {
             DropMode::Hard
@@ -93,8 +104,8 @@ fn is_word(word: Option<&String>, text: &str) -> bool {
     }
 }
 
-/// The checksum of all placements in this many rounds.
-fn flooded<L: Ledger>(blank: Blank, rounds: u32) -> u64
+/// The checksum of all placements in these wells, in this many rounds.
+fn flooded<L: Ledger>(blank: Blank, wells: &[Well], rounds: u32) -> u64
     requires name { blank.name ≡ L.name }
     requires parts { blank.parts ≡ L.parts }
     requires some { 0 < blank.parts }
@@ -103,14 +114,19 @@ fn flooded<L: Ledger>(blank: Blank, rounds: u32) -> u64
     let rules = Rules::srs();
     let mut sum = 0;
     for _ in 0..rounds {
-        for field in FIELDS {
-            let well = Well::from_rows(field).unwrap_or(Well::empty());
-            for piece in Piece::ALL {
-                for mode in MODES {
-                    let held = places(&well, &rules, piece, mode, &mut steps);
-                    sum = mixed(sum, &held);
-                }
-            }
+        for well in wells {
+            sum = well_sum(sum, well, &rules, &mut steps);
+        }
+    }
+    sum
+}
+
+/// The checksum, with all placements of all pieces in a well added.
+fn well_sum<L: Ledger>(sum: u64, well: &Well, rules: &Rules, steps: &mut Steps<L>) -> u64 {
+    let mut sum = sum;
+    for piece in Piece::ALL {
+        for mode in MODES {
+            sum = mixed(sum, &places(well, rules, piece, mode, steps));
         }
     }
     sum
@@ -123,23 +139,36 @@ fn low_flooded<L: Ledger>(blank: Blank, alloc: Global, task: Task) -> Result<u64
     requires some { 0 < blank.parts }
 {
     let mut steps = Steps::<L>::new(blank);
-    let wells = if task.is_played {
-        played_fields(alloc, task.rows, &mut steps)?
-    } else {
-        ragged_fields(alloc, task.rows)?
+    let wells = match task.fields {
+        Fields::Ragged => ragged_fields(alloc, task.rows)?,
+        Fields::Played => played_fields(alloc, task.rows, &mut steps)?,
     };
     let rules = Rules::srs();
     let mut sum = 0;
     for _ in 0..task.rounds {
         for well in &wells {
-            if is_low(well) {
-                for piece in Piece::ALL {
-                    sum = low_sum(sum, well, &rules, piece, task, &mut steps);
-                }
-            }
+            sum = low_field_sum(sum, well, &rules, task, &mut steps);
         }
     }
     Ok(sum)
+}
+
+/// The checksum, with what is looked at in the floods of all pieces added, if the field is low.
+fn low_field_sum<L: Ledger>(
+    sum: u64,
+    well: &Well,
+    rules: &Rules,
+    task: Task,
+    steps: &mut Steps<L>,
+) -> u64 {
+    if !is_low(well) {
+        return sum;
+    }
+    let mut sum = sum;
+    for piece in Piece::ALL {
+        sum = low_sum(sum, well, rules, piece, task, steps);
+    }
+    sum
 }
 
 /// The checksum, with what is looked at in the flood of a low field added.
