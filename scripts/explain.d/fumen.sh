@@ -91,7 +91,7 @@ fumen_fault() {
     Fumen.BadCell:1) fumen_damaged "the start of a run that gives cells a colour that there is not" ;;
     Fumen.BadAction:1) fumen_damaged "the start of a page's action, whose number is too large" ;;
     Fumen.PieceOutside:1) piece_outside ;;
-    Fumen.BadComment:1) fumen_damaged "the start of a part of a comment whose number is too large" ;;
+    Fumen.BadComment:1) fumen_damaged "the start of a part of a comment that stands for no characters" ;;
     Fumen.TooManyPages:0) fumen_pages ;;
     *) return 1 ;;
     esac
