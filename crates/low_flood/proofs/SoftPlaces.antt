@@ -1,5 +1,5 @@
 -- The canonical placements that rest at lane states of a soft flood are the places of a soft drop.
-use Rattle.std.proofs.Common.{◌≡◌, ◌↔◌, ◌⊎◌, ℕ, zero, suc, ◌+◌, ◌-◌, ◌%◌, ◌<◌, ◌≤◌, true, not, ◌||◌, ◌==◌, ℤ, pos, ◌+ℤ◌, refl, sym, ap, subst, ◌∙◌, inl, inr, arith, rules}
+use Rattle.std.proofs.Common.{◌≡◌, ◌↔◌, ◌⊎◌, ℕ, zero, suc, ◌+◌, ◌-◌, ◌%◌, ◌<◌, ◌≤◌, true, ◌==◌, ℤ, pos, ◌+ℤ◌, refl, sym, ap, subst, ◌∙◌, inl, inr, arith, rules}
 use Rattle.std.specs.Prelude.{◌<ℤ◌, IsTrue, nat_le}
 use Rattle.std.specs.List.{list_all}
 use Rattle.std.proofs.lemmas.Int.{ints}
@@ -13,9 +13,9 @@ use Rattle.srs.specs.declared.placement.Placement.{Placement}
 use Rattle.srs.specs.Canonical.{IsCanonical, canonical_rotation, canonical_move}
 use Rattle.srs.specs.Cells.{Cell, moved, shape, pivot_of}
 use Rattle.srs.specs.Kick.{srs_table, kicks_of}
-use Rattle.srs.specs.Rotation.{rotation_index, clockwise_of, anticlockwise_of}
+use Rattle.srs.specs.Rotation.{clockwise_of, anticlockwise_of}
 use Rattle.srs.specs.SameCells.{HasSameCells}
-use Rattle.srs.proofs.CallerLemmas.{IsCanonical-from_test, is_canonical-from, canonical_pivot, canonical_unique, found_cells, found_canonical, same_cells-piece, same_cells-sym, same_cells-trans, rotation_index-injective, each_state}
+use Rattle.srs.proofs.CallerLemmas.{IsCanonical-from_test, is_canonical-from, canonical_pivot, canonical_unique, found_cells, found_canonical, same_cells-piece, same_cells-sym, same_cells-trans, rotation_index-injective}
 use Rattle.well.specs.Free.{is_free}
 use Rattle.well.proofs.CallerLemmas.{free_inside}
 use Rattle.well.specs.LockLaws.{LiesBelow}
