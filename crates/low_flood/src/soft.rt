@@ -20,8 +20,8 @@ use moves::DropMode;
 use place_sets::{Pivots, Shifts, spread};
 use srs::{Piece, Rotation};
 
-/// The canonical placements that have the cells of resting states that keys lead to, with the pivot below row `M`, if two
-/// lanes lie above all cells.
+/// The canonical placements that have the cells of resting states that keys lead to, with the pivot below row `M`, if
+/// two lanes lie above all cells.
 pub(crate) fn soft_places<const KIND: u8, const N: usize, const M: usize>(
     filled: &LaneBoard<N>,
     piece: Piece,
