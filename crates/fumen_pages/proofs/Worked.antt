@@ -4,7 +4,7 @@ use Rattle.std.specs.Prelude.{codes, replicate}
 use Rattle.fumen_digits.specs.declared.dialect.Dialect.TheVariants.{V110, V115}
 use Rattle.fumen_digits.specs.Digit.{digit, digit_value}
 use Rattle.fumen_digits.specs.Number.{digits}
-use Rattle.fumen_digits.specs.declared.fault.FumenFault.TheVariants.{RunPastEnd, BadCell, BadAction}
+use Rattle.fumen_digits.specs.declared.fault.FumenFault.TheVariants.{RunPastEnd, BadCell, BadAction, PieceOutside}
 use Rattle.fumen_digits.specs.Reading.{number_from, value_at}
 use Rattle.srs.specs.declared.piece.Piece.TheVariants.{O, T}
 use Rattle.srs.specs.declared.rotation.Rotation.TheVariants.{Spawn, Left}

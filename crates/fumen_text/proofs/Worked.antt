@@ -5,7 +5,7 @@ use Rattle.fumen_digits.specs.declared.dialect.Dialect.TheVariants.{V110, V115}
 use Rattle.fumen_digits.specs.Digit.{digit, digit_value}
 use Rattle.fumen_digits.specs.Framing.{digits_in, digits_behind}
 use Rattle.fumen_digits.specs.Number.{digits}
-use Rattle.fumen_digits.specs.declared.fault.FumenFault.TheVariants.{NoFumen, Truncated, RunPastEnd, TooManyPages}
+use Rattle.fumen_digits.specs.declared.fault.FumenFault.TheVariants.{NoFumen, Truncated, RunPastEnd, PieceOutside, TooManyPages}
 use Rattle.fumen_digits.specs.Reading.{number_from, value_at}
 use Rattle.srs.specs.declared.piece.Piece.TheVariants.{T}
 use Rattle.srs.specs.declared.rotation.Rotation.TheVariants.{Spawn}
