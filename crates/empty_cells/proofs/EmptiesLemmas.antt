@@ -1,15 +1,15 @@
 -- The cells that the bits of a set stand for.
-use Rattle.std.proofs.Common.{◌≡◌, ℕ, ◌+◌, ◌*◌, ◌/◌, ◌%◌, ◌<◌, Bool, true, false, not, ◌&&◌, nat_lt, pos, ap, ◌∙◌, sym, arith, rules}
+use Rattle.std.proofs.Common.{◌≡◌, ℕ, ◌+◌, ◌*◌, ◌/◌, ◌%◌, ◌<◌, Bool, true, false, not, ◌&&◌, nat_lt, pos, negsuc, refl, ap, ◌∙◌, sym, arith, rules}
 use Rattle.std.proofs.Math.Path.{fun_ext}
 use Rattle.std.specs.Int.{bit_at}
 use Rattle.std.proofs.lemmas.Bool.{both_ways, false≢true, cases_lt, and_left, and_right, and_from, and_parts, le-ltb, lt-ltb, ltb-true}
 use Rattle.std.proofs.lemmas.Nat.Bits.{bit_at_above}
-use Rattle.lane_board.specs.Field.{Field}
+use Rattle.lane_board.specs.Field.{Field, has_cell}
 use Rattle.lane_board.specs.Lanes.{has_bit}
 use Rattle.lane_board.proofs.CallerLemmas.{has_bit-zero, has_bit-past, same_from_columns}
 use Rattle.srs.specs.Cells.{Cell}
 use Rattle.empty_cells.specs.declared.empties.Empties.{Empties}
-use Rattle.empty_cells.specs.Empties.{cells_by_column, empty_cells, has_cell}
+use Rattle.empty_cells.specs.Empties.{cells_by_column, empty_cells, has_cell_at}
 use Rattle.empty_cells.specs.Spans.{HasNoCell, IsFirst}
 use Rattle.empty_cells.proofs.StackLemmas.{IsSmall}
 
@@ -57,5 +57,8 @@ pub record CellOf (E : Field) (c : Cell) : Type 0 where
   pub is : c ≡ (pos x, pos y)
   pub has : E x y ≡ true
 
-pub cell_of : (E : Field) (c : Cell) → has_cell E c ≡ true → CellOf E c
-cell_of E c here = search (rules, false≢true)
+pub cell_of : (E : Field) (c : Cell) → has_cell_at E c ≡ true → CellOf E c
+unfolding has_cell
+cell_of E (pos x, pos y) here = record { x = x; y = y; is = refl; has = here }
+cell_of E (pos x, negsuc y) here = absurd (false≢true here)
+cell_of E (negsuc x, y) here = absurd (false≢true here)

@@ -6,7 +6,7 @@ use Rattle.std.proofs.lemmas.Bool.{cases_Bool, cases_lt, both_ways, and_from, co
 use Rattle.std.proofs.lemmas.List.Elements.{All-nil}
 use Rattle.std.proofs.lemmas.Int.{ints}
 use Rattle.std.proofs.Math.Bool.{not-not}
-use Rattle.lane_board.specs.Field.{Field, rows_below}
+use Rattle.lane_board.specs.Field.{Field, rows_below, has_cell}
 use Rattle.srs.specs.declared.piece.Piece.{Piece}
 use Rattle.srs.specs.declared.rotation.Rotation.{Rotation}
 use Rattle.srs.specs.Cells.{Cell, shape}
@@ -18,7 +18,7 @@ use Rattle.prune.specs.Laws.{with_one}
 use Rattle.prune.specs.OnePart.{less_one}
 use Rattle.prune.proofs.CallerLemmas.{with_part, taken_part, has_cell-map, source_of}
 use Rattle.empty_cells.specs.declared.span.Span.{Span}
-use Rattle.empty_cells.specs.Empties.{all_but, has_cell}
+use Rattle.empty_cells.specs.Empties.{all_but, has_cell_at}
 use Rattle.empty_cells.specs.Spans.{HasNoCell, IsFirst}
 use Rattle.empty_cells.specs.Stacks.{is_allowed, CanFill, Stacks, StacksPiece, in_stack, without_stack}
 use Rattle.empty_cells.proofs.EmptiesLemmas.{CellOf, cell_of}
@@ -72,9 +72,10 @@ pub record PartOf (piece : Piece) (rotation : Rotation) (x : ℕ) (rows : ℕ �
   pub kind : part.piece ≡ piece
   pub generalized : IsGeneralized part
   pub same : (a b : ℕ) → is_among part.cells (pos a, pos b) ≡ in_stack x rows (form piece rotation) a b
-  pub inside : (E : Field) → IsWithin E x rows (form piece rotation) → list_all (has_cell E) part.cells ≡ true
+  pub inside : (E : Field) → IsWithin E x rows (form piece rotation) → list_all (has_cell_at E) part.cells ≡ true
 
 pub part_of : (piece : Piece) (rotation : Rotation) (x : ℕ) (rows : ℕ → ℕ) → Rises rows (length (form piece rotation)) → PartOf piece rotation x rows
+unfolding has_cell
 part_of piece rotation x rows rises = record {
   part = part;
   kind = refl;
@@ -98,13 +99,21 @@ part_of piece rotation x rows rises = record {
     same : (a b : ℕ) → is_among part.cells (pos a, pos b) ≡ in_stack x rows (form piece rotation) a b
     same = same_cells piece rotation move row x rows matches
 
-    inside : (E : Field) → IsWithin E x rows (form piece rotation) → list_all (has_cell E) part.cells ≡ true
-    inside E within = search (rules, list_all-from_is_among, sent_from, sent_at, matches, same)
+    inside : (E : Field) → IsWithin E x rows (form piece rotation) → list_all (has_cell_at E) part.cells ≡ true
+    inside E within = list_all-from_is_among (has_cell_at E) part.cells (λ c has.
+        let from = sent_from (sent move row) (shape piece rotation) c has in
+        here E within c _ _ (sym from.2 ∙ sent_at piece rotation move row x matches.column from.0 from.1) has)
+      where
+        here : (E : Field) → IsWithin E x rows (form piece rotation) → (c : Cell) (a b : ℕ) → c ≡ (pos a, pos b) → is_among part.cells c ≡ true → has_cell_at E c ≡ true
+        here E within c a b is has = subst (λ c. has_cell_at E c ≡ true) (sym is) (within.inside a b (sym (same a b) ∙ subst (λ c. is_among part.cells c ≡ true) is has))
 
 -- cells of a set are empty where all others are filled
-pub empty_within : (height : ℕ) (E : Field) (cells : List Cell) → IsSmall height E → list_all (has_cell E) cells ≡ true → list_all (is_empty_below (all_but E) height) cells ≡ true
+pub empty_within : (height : ℕ) (E : Field) (cells : List Cell) → IsSmall height E → list_all (has_cell_at E) cells ≡ true → list_all (is_empty_below (all_but E) height) cells ≡ true
 empty_within height E cells small inside =
-    search (rules, list_all-from_is_among, cell_of, is_among-all, CellOf, empty_is)
+    list_all-from_is_among (is_empty_below (all_but E) height) cells (λ c has. each c (cell_of E c (is_among-all (has_cell_at E) cells c inside has)))
+  where
+    each : (c : Cell) → CellOf E c → is_empty_below (all_but E) height c ≡ true
+    each c at = subst (λ c. is_empty_below (all_but E) height c ≡ true) (sym at.is) (empty_is height E at.x at.y small ∙ at.has)
 
 -- a piece whose spans are stacked in the set, and a filling of what it leaves
 pub fills_chosen : (height : ℕ) (E : Field) (supply : Supply) (piece : Piece) (rotation : Rotation) (x floor : ℕ) → IsSmall height E → 0 < supply piece → Chosen (CanFill height (less_one supply piece)) E x floor (form piece rotation) → CanFill height supply E

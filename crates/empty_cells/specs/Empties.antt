@@ -1,6 +1,6 @@
 -- What contracts see of a set of empty cells.
-use Rattle.std.specs.Prelude.{ℕ, ◌+◌, ◌*◌, Bool, false, not, ◌&&◌, nat_lt, pos}
-use Rattle.lane_board.specs.Field.{Field}
+use Rattle.std.specs.Prelude.{ℕ, ◌+◌, ◌*◌, Bool, not, ◌&&◌, nat_lt, pos}
+use Rattle.lane_board.specs.Field.{Field, has_cell}
 use Rattle.lane_board.specs.Lanes.{has_bit}
 use Rattle.srs.specs.declared.placement.Placement.{Placement}
 use Rattle.srs.specs.Cells.{Cell, cells_of}
@@ -24,6 +24,5 @@ unfoldable pub without_placement : Field → Placement → Field
 without_placement E placement x y = E x y && not (is_among (cells_of placement) (pos x, pos y))
 
 -- the set has a cell
-abbrev pub has_cell : Field → Cell → Bool
-has_cell E (pos x, pos y) = E x y
-has_cell E _ = false
+abbrev pub has_cell_at : Field → Cell → Bool
+has_cell_at E cell = has_cell E cell.0 cell.1

@@ -5,7 +5,7 @@ ghost use Rattle.lane_board.specs.Field.{rows_below};
 ghost use Rattle.lane_board.specs.Lanes.{has_bit};
 ghost use Rattle.well.specs.Counts.{is_filled_row};
 ghost use Rattle.srs.specs.Cells.{cells_of};
-ghost use Rattle.empty_cells.specs.Empties.{empty_cells, has_cell};
+ghost use Rattle.empty_cells.specs.Empties.{empty_cells, has_cell_at};
 ghost use Rattle.empty_cells.specs.SentCells.{sent_cells};
 
 use crate::empties::Empties;
@@ -18,7 +18,7 @@ impl Empties {
     pub fn sent(placement: &Placement, rows: &[u8; 8]) -> Empties
         requires column { placement.now.x ≤ 31 }
         requires row { placement.now.y ≤ 31 }
-        requires inside { IsTrue (list_all (has_cell (rows_below 8)) (cells_of placement.now)) }
+        requires inside { IsTrue (list_all (has_cell_at (rows_below 8)) (cells_of placement.now)) }
         requires rows { (y : ℕ) → y < 8 → slice_index rows.now y < 8 }
         ensures { empty_cells result ≡ sent_cells rows.now placement.now }
     {

@@ -3,7 +3,7 @@ use Rattle.std.proofs.Common.{ℕ, ◌≡◌, ◌∙◌, ◌<◌, ◌≤◌, tru
 use Rattle.std.proofs.lemmas.List.Folds.{list_all-map}
 use Rattle.std.proofs.lemmas.Bool.{not-true, not_from_false, not-false}
 use Rattle.srs.proofs.CallerLemmas.{list_all-from_is_among}
-use Rattle.lane_board.specs.Field.{Field, difference}
+use Rattle.lane_board.specs.Field.{Field, difference, has_cell}
 use Rattle.srs.specs.declared.placement.Placement.{Placement}
 use Rattle.srs.specs.Cells.{Cell, cells_of}
 use Rattle.srs.specs.SameCells.{is_among}
@@ -13,7 +13,7 @@ use Rattle.well.specs.LockLaws.{is_below}
 use Rattle.well.proofs.CallerLemmas.{free_inside}
 use Rattle.prune.specs.Tiling.{Part, Supply, Tiling}
 use Rattle.prune.proofs.CallerLemmas.{SendsRows, cell_to, generalized_to, part_to, placed, placed_empty, placed_generalized, row_to, tiling_to}
-use Rattle.empty_cells.specs.Empties.{all_but, has_cell}
+use Rattle.empty_cells.specs.Empties.{all_but, has_cell_at}
 use Rattle.empty_cells.specs.SentCells.{sent_cells, sent_up}
 use Rattle.empty_cells.proofs.CallerLemmas.{IsSmall}
 use Rattle.tiled_pieces.specs.TilingLists.{LaidPiece, laid_part}
@@ -61,15 +61,15 @@ left-sent rows E q = ap (λ (piece : LaidPiece). difference E piece.cells) (laid
 
 pub lies : (F : Field) (q : Placement) (height : ℕ) (rows : List ℕ) (E : Field) (supply : Supply) → height ≤ 8 → IsSmall 8 E → IsSpread F height rows E → is_free F q ≡ true → is_below height q ≡ true
     → 0 < supply q.piece → LiesIn E supply (sent_part rows q)
-unfolding cell_to row_to
+unfolding cell_to row_to has_cell
 lies F q height rows E supply few small spread free below some = record {
   small = small;
   generalized = generalized_to F height (all_but E) 8 (λ y. get_or rows y 0) (sends F height rows E few spread) (placed q) (placed_empty F height q free below) (placed_generalized q (free_inside F q free));
   some = some;
-  inside = list_all-map (has_cell E) (cell_to (λ y. get_or rows y 0)) (cells_of q) ∙ list_all-from_is_among (λ c. has_cell E (cell_to (λ y. get_or rows y 0) c)) (cells_of q) (λ c has. here c (near F height rows E spread q free below c has));
+  inside = list_all-map (has_cell_at E) (cell_to (λ y. get_or rows y 0)) (cells_of q) ∙ list_all-from_is_among (λ c. has_cell_at E (cell_to (λ y. get_or rows y 0) c)) (cells_of q) (λ c has. here c (near F height rows E spread q free below c has));
 }
   where
-    here : (c : Cell) → NearCell F height rows E spread q free below c → has_cell E (cell_to (λ y. get_or rows y 0) c) ≡ true
+    here : (c : Cell) → NearCell F height rows E spread q free below c → has_cell_at E (cell_to (λ y. get_or rows y 0) c) ≡ true
     here c at =
         let column = at.column in
-        subst (λ c. has_cell E (cell_to (λ y. get_or rows y 0) c) ≡ true) (sym at.is) (spread.same at.x at.y (omega arith) at.row ∙ not_from_false (F at.x at.y) at.empty)
+        subst (λ c. has_cell_at E (cell_to (λ y. get_or rows y 0) c) ≡ true) (sym at.is) (spread.same at.x at.y (omega arith) at.row ∙ not_from_false (F at.x at.y) at.empty)

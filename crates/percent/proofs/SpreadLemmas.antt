@@ -6,7 +6,7 @@ use Rattle.std.proofs.Common.{set as list_set}
 use Rattle.std.proofs.lemmas.List.{get_or-set_other}
 use Rattle.std.proofs.lemmas.Grind.{get_or-set_at}
 use Rattle.std.specs.List.{list_all, list_any}
-use Rattle.lane_board.specs.Field.{Field, difference, rows_below}
+use Rattle.lane_board.specs.Field.{Field, difference, rows_below, has_cell}
 use Rattle.lane_board.specs.FullRows.{columns, is_full, full_below, without_full_rows}
 use Rattle.lane_board.specs.Lanes.{has_bit}
 use Rattle.lane_board.proofs.CallerLemmas.{full_below-full, full_below-le, full_below-other, lowered_from, lowered_rises, lowered_to, not_full_from_cell, one_row, same_from_both}
@@ -19,7 +19,7 @@ use Rattle.well.specs.Free.{is_free, is_free_at, is_open}
 use Rattle.well.specs.Lock.{locked, rows_removed, together, with_cells}
 use Rattle.well.specs.LockLaws.{LiesBelow, is_below}
 use Rattle.well.proofs.CallerLemmas.{full_below_height, together_below}
-use Rattle.empty_cells.specs.Empties.{has_cell}
+use Rattle.empty_cells.specs.Empties.{has_cell_at}
 use Rattle.empty_cells.specs.SentCells.{sent_cells, sent_up}
 use Rattle.empty_cells.proofs.CallerLemmas.{cell_of, sent_from, sent_has}
 use Rattle.std.proofs.lemmas.Bool.{or_cases}
@@ -47,30 +47,30 @@ is_row (suc height) rows z row low sent = elim (cases_eq row height) [
   | inr apart ↦ or_left (is_row_of height rows z) (get_or rows height 0 == z) (is_row height rows z row (omega (arith, low, apart)) sent)
 ]
 
-blank_cell : (F : Field) (rows : ℕ) (c : Cell) → is_open F c ≡ true → int_lt c.1 (pos rows) ≡ true → has_cell (difference (rows_below rows) F) c ≡ true
-unfolding is_open difference rows_below
+blank_cell : (F : Field) (rows : ℕ) (c : Cell) → is_open F c ≡ true → int_lt c.1 (pos rows) ≡ true → has_cell_at (difference (rows_below rows) F) c ≡ true
+unfolding is_open difference rows_below has_cell
 blank_cell F rows c blank low = search (rules, and_parts, leb-true, and_from, lt-ltb, false≢true)
 
 -- a blank cell below a row is one of the empty cells there
 blank_below : (F : Field) (rows : ℕ) (cells : List Cell) → list_all (is_open F) cells ≡ true → list_all (λ cell. int_lt cell.1 (pos rows)) cells ≡ true
-    → list_all (has_cell (difference (rows_below rows) F)) cells ≡ true
+    → list_all (has_cell_at (difference (rows_below rows) F)) cells ≡ true
 blank_below F rows [] blank low = refl
 blank_below F rows (c ∷ cells) blank low =
     let here = and_parts (is_open F c) (list_all (is_open F) cells) blank in
     let below = and_parts (int_lt c.1 (pos rows)) (list_all (λ cell. int_lt cell.1 (pos rows)) cells) low in
     and_from _ _ (blank_cell F rows c here.0 below.0) (blank_below F rows cells here.1 below.1)
 
-pub placed_inside : (F : Field) (rows : ℕ) (q : Placement) → is_free F q ≡ true → is_below rows q ≡ true → list_all (has_cell (difference (rows_below rows) F)) (cells_of q) ≡ true
+pub placed_inside : (F : Field) (rows : ℕ) (q : Placement) → is_free F q ≡ true → is_below rows q ≡ true → list_all (has_cell_at (difference (rows_below rows) F)) (cells_of q) ≡ true
 unfolding is_free_at
 placed_inside F rows q free below = blank_below F rows (cells_of q) free below
 
 -- so its cells lie in rows 0 to 7
-pub placed_in_rows : (F : Field) (height : ℕ) (q : Placement) → height ≤ 8 → is_free F q ≡ true → is_below height q ≡ true → list_all (has_cell (rows_below 8)) (cells_of q) ≡ true
-unfolding difference rows_below
+pub placed_in_rows : (F : Field) (height : ℕ) (q : Placement) → height ≤ 8 → is_free F q ≡ true → is_below height q ≡ true → list_all (has_cell_at (rows_below 8)) (cells_of q) ≡ true
+unfolding difference rows_below has_cell
 placed_in_rows F height q few free below =
-    list_all-from_is_among (has_cell (rows_below 8)) (cells_of q) (λ c has. inside c (is_among-all (has_cell (difference (rows_below height) F)) (cells_of q) c (placed_inside F height q free below) has))
+    list_all-from_is_among (has_cell_at (rows_below 8)) (cells_of q) (λ c has. inside c (is_among-all (has_cell_at (difference (rows_below height) F)) (cells_of q) c (placed_inside F height q free below) has))
   where
-    inside : (c : Cell) → has_cell (difference (rows_below height) F) c ≡ true → has_cell (rows_below 8) c ≡ true
+    inside : (c : Cell) → has_cell_at (difference (rows_below height) F) c ≡ true → has_cell_at (rows_below 8) c ≡ true
     inside (pos x, pos y) here =
         let place = and_parts (nat_lt x 10) (nat_lt y height) (and_parts (nat_lt x 10 && nat_lt y height) (not (F x y)) here).0 in
         and_from _ _ place.0 (lt-ltb y 8 (let low = ltb-true y height place.1 in omega arith))
@@ -110,7 +110,7 @@ module _ (F : Field) (height : ℕ) (rows : List ℕ) (E : Field) (spread : IsSp
   pub near : (c : Cell) → is_among (cells_of q) c ≡ true → NearCell c
   unfolding difference rows_below
   near c has =
-      let at = cell_of (difference (rows_below height) F) c (is_among-all (has_cell (difference (rows_below height) F)) (cells_of q) c (placed_inside F height q free below) has) in
+      let at = cell_of (difference (rows_below height) F) c (is_among-all (has_cell_at (difference (rows_below height) F)) (cells_of q) c (placed_inside F height q free below) has) in
       let parts = and_parts (nat_lt at.x 10 && nat_lt at.y height) (not (F at.x at.y)) at.has in
       let place = and_parts (nat_lt at.x 10) (nat_lt at.y height) parts.0 in
       record { x = at.x; y = at.y; is = at.is; column = ltb-true at.x 10 place.0; row = ltb-true at.y height place.1; empty = not-true (F at.x at.y) parts.1 }

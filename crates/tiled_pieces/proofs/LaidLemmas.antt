@@ -1,12 +1,12 @@
 -- Pieces laid one after the other are the parts of a tiling, and each tiling can be laid so that each piece has the first cell of what is left.
-use Rattle.std.proofs.Common.{◌≡◌, ◌⊎◌, ℕ, zero, suc, ◌<◌, ◌≤◌, Bool, true, false, not, ◌&&◌, cond, List, [], ◌∷◌, ◌++◌, map, pos, refl, sym, ap, ap₂, subst, ◌∙◌, inl, inr, arith, rules}
+use Rattle.std.proofs.Common.{◌≡◌, ◌⊎◌, ℕ, zero, suc, ◌<◌, ◌≤◌, Bool, true, false, not, ◌&&◌, cond, List, [], ◌∷◌, ◌++◌, map, pos, negsuc, refl, sym, ap, ap₂, subst, ◌∙◌, inl, inr, arith, rules}
 use Rattle.std.specs.Prelude.{All}
 use Rattle.std.proofs.Math.Path.{fun_ext}
 use Rattle.std.specs.List.{Contains}
 use Rattle.std.proofs.lemmas.Bool.{cases_Bool, cases_eq, cases_lt, and_parts, both_ways, false≢true}
 use Rattle.std.proofs.lemmas.List.{append_assoc}
 use Rattle.std.proofs.lemmas.List.Elements.{All-cons, All-contains, All-contains_itself, All-head, All-map, All-nil, All-tail, All-weaker, Contains-append_left, Contains-append_right}
-use Rattle.lane_board.specs.Field.{Field, difference}
+use Rattle.lane_board.specs.Field.{Field, difference, has_cell}
 use Rattle.srs.specs.declared.piece.Piece.{Piece}
 use Rattle.srs.specs.Cells.{Cell}
 use Rattle.srs.proofs.CallerLemmas.{is_among-all, list_all-from_is_among}
@@ -14,7 +14,7 @@ use Rattle.prune.specs.Tiling.{Part, Supply, Tiling, covers, is_empty_below}
 use Rattle.prune.specs.Laws.{with_one}
 use Rattle.prune.specs.OnePart.{less_one}
 use Rattle.prune.proofs.CallerLemmas.{TakenPart, no_parts, taken_part}
-use Rattle.empty_cells.specs.Empties.{all_but, has_cell}
+use Rattle.empty_cells.specs.Empties.{all_but, has_cell_at}
 use Rattle.empty_cells.specs.Spans.{HasNoCell, IsFirst}
 use Rattle.empty_cells.specs.Stacks.{Stacks, in_stack, is_allowed, without_stack}
 use Rattle.empty_cells.proofs.CallerLemmas.{Chosen, IsSmall, PartOf, StackOf, chosen, empty_is, empty_within, fewer, fills_nothing, form, form_at, form_with_index, form_within, over_first, part_of, rotation_at, stack_of, total}
@@ -117,9 +117,11 @@ pub record InOrder (supply : Supply) (E : Field) (parts : List Part) : Type 0 wh
   pub all : All (λ part. Contains laid (laid_part part)) parts
   pub only : All (Contains (map laid_part parts)) laid
 
-has_from_empty : (E : Field) (cell : Cell) → IsSmall 8 E → is_empty_below (all_but E) 8 cell ≡ true → has_cell E cell ≡ true
-unfolding is_empty_below
-has_from_empty E cell small empty = search (rules, empty_is, false≢true)
+has_from_empty : (E : Field) (cell : Cell) → IsSmall 8 E → is_empty_below (all_but E) 8 cell ≡ true → has_cell_at E cell ≡ true
+unfolding is_empty_below has_cell
+has_from_empty E (pos x, pos y) small empty = sym (empty_is 8 E x y small) ∙ empty
+has_from_empty E (pos x, negsuc y) small empty = absurd (false≢true empty)
+has_from_empty E (negsuc x, y) small empty = absurd (false≢true empty)
 
 -- what is left of a tiling without a part
 abbrev rest_of : (E : Field) (supply : Supply) (cell : Cell) (parts : List Part) (p : TakenPart (all_but E) 8 supply cell parts) → Tiling (all_but (left_by_part E p.part)) 8 (less_one supply p.part.piece)

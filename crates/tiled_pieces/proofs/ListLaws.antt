@@ -10,7 +10,7 @@ use Rattle.well.specs.Lock.{with_cells}
 use Rattle.prune.specs.Tiling.{IsGeneralized, Part, Supply, Tiling, covers, is_empty_below}
 use Rattle.prune.specs.OnePart.{less_one}
 use Rattle.prune.proofs.CallerLemmas.{TilingOf, one_part_more}
-use Rattle.empty_cells.specs.Empties.{all_but, has_cell}
+use Rattle.empty_cells.specs.Empties.{all_but, has_cell_at}
 use Rattle.empty_cells.proofs.CallerLemmas.{IsSmall, empty_within, not_without, one_back}
 use Rattle.tiled_pieces.specs.declared.listed.ListedTiling.{ListedTiling}
 use Rattle.tiled_pieces.specs.TilingLists.{HasParts, HasPiece, ListsAll, SomeHas, laid_part}
@@ -20,7 +20,7 @@ pub record LiesIn (E : Field) (supply : Supply) (part : Part) : Type 0 where
   pub small : IsSmall 8 E
   pub generalized : IsGeneralized part
   pub some : 0 < supply part.piece
-  pub inside : list_all (has_cell E) part.cells ≡ true
+  pub inside : list_all (has_cell_at E) part.cells ≡ true
 
 -- the cells that it leaves
 abbrev pub left_by_part : Field → Part → Field

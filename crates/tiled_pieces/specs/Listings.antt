@@ -8,7 +8,7 @@ use Rattle.prune.specs.Tiling.{IsGeneralized, Part, Supply}
 use Rattle.prune.specs.OnePart.{less_one}
 use Rattle.empty_cells.specs.declared.shifted.Shifted.{Shifted}
 use Rattle.empty_cells.specs.declared.span.Span.{Span}
-use Rattle.empty_cells.specs.Empties.{has_cell}
+use Rattle.empty_cells.specs.Empties.{has_cell_at}
 use Rattle.empty_cells.specs.ShiftedCells.{shifted_cells}
 use Rattle.empty_cells.specs.Spans.{HasNoCell, IsFirst, forms_of}
 use Rattle.empty_cells.specs.Stacks.{Stacks, is_allowed}
@@ -41,7 +41,7 @@ pub record IsLaid (Next : Field → LaidPiece → Type 0) (supply : Supply) (E :
   pub is : laid ≡ laid_part part
   pub generalized : IsGeneralized part
   pub some : 0 < supply part.piece
-  pub inside : IsTrue (list_all (has_cell E) part.cells)
+  pub inside : IsTrue (list_all (has_cell_at E) part.cells)
   pub next : Next E laid
 
 -- pieces are laid one after the other, until no cell of the set is left

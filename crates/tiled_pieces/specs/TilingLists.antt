@@ -9,7 +9,7 @@ use Rattle.srs.specs.Cells.{cells_of}
 use Rattle.srs.specs.SameCells.{is_among}
 use Rattle.prune.specs.Tiling.{Part, Supply, Tiling}
 use Rattle.prune.specs.OnePart.{less_one}
-use Rattle.empty_cells.specs.Empties.{all_but, empty_cells, has_cell, without_placement}
+use Rattle.empty_cells.specs.Empties.{all_but, empty_cells, has_cell_at, without_placement}
 use Rattle.empty_cells.specs.Spans.{HasNoCell}
 use Rattle.tiled_pieces.specs.declared.listed.ListedTiling.{ListedTiling}
 
@@ -73,6 +73,6 @@ pub record ListsOnly (E : Field) (supply : Supply) (list : List ListedTiling) : 
 -- A placement stands in a tiling of the set: the set has its cells, and what it leaves has a tiling by the others of
 -- the supply.
 pub record StandsInTiling (E : Field) (supply : Supply) (placement : Placement) : Type 0 where
-  pub inside : IsTrue (list_all (has_cell E) (cells_of placement))
+  pub inside : IsTrue (list_all (has_cell_at E) (cells_of placement))
   pub some : 0 < supply placement.piece
   pub rest : Tiling (all_but (without_placement E placement)) 8 (less_one supply placement.piece)
