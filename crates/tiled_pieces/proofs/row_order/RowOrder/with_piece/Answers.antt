@@ -10,5 +10,5 @@ returns-then-gaps-eq0 c = λ piece more follows. follows_tail c.args.self (recor
 
 pub returns : goal.returns
 returns c = λ piece more follows. follows_piece c.args.self c.with.result (record { piece = piece; cells = empty_cells c.args.cells.now }) more (not-false _ c.if-not-self.false)
-    (λ turn agrees turns. c.with.ensures turn agrees (piece_goes (empty_cells c.args.cells.now) piece c.rows.result c.between-gaps.result turn
-    (cells_small c.args.cells.now) c.rows.ensures c.between-gaps.ensures turns)) follows
+    (λ turn agrees turns. c.with.ensures turn agrees (piece_goes (empty_cells c.args.cells.now) piece c.rows-rows.result c.between-gaps.result turn
+    (cells_small c.args.cells.now) c.rows-rows.ensures c.between-gaps.ensures turns)) follows
