@@ -24,7 +24,7 @@ const MODES: [DropMode; 2] = [DropMode::Soft, DropMode::Hard];
 #[derive(Clone, Copy)]
 struct Task {
     rounds: u32,
-    fields: Fields,
+    fields: LowFields,
     rows: u32,
     mode: DropMode,
     look: Look,
@@ -32,7 +32,7 @@ struct Task {
 
 /// Which low fields are flooded.
 #[derive(Clone, Copy)]
-enum Fields {
+enum LowFields {
     Ragged,
     Played,
 }
@@ -63,9 +63,9 @@ fn task_of(words: &[String]) -> Task {
     Task {
         rounds: number(words.first()),
         fields: if is_word(words.get(1), "played") {
-            Fields::Played
+            LowFields::Played
         } else {
-            Fields::Ragged
+            LowFields::Ragged
         },
         rows: number(words.get(2)),
         mode: if is_word(words.get(3), "hard") {
@@ -140,8 +140,8 @@ fn low_flooded<L: Ledger>(blank: Blank, alloc: Global, task: Task) -> Result<u64
 {
     let mut steps = Steps::<L>::new(blank);
     let wells = match task.fields {
-        Fields::Ragged => ragged_fields(alloc, task.rows)?,
-        Fields::Played => played_fields(alloc, task.rows, &mut steps)?,
+        LowFields::Ragged => ragged_fields(alloc, task.rows)?,
+        LowFields::Played => played_fields(alloc, task.rows, &mut steps)?,
     };
     let rules = Rules::srs();
     let mut sum = 0;

@@ -9,7 +9,13 @@ use Rattle.sequence_text.specs.Written.{sequence_form, without_keys}
 abbrev pub next_form : Placement → List ℕ
 next_form placement = 32 ∷ placement_form placement
 
-pub plain_is : (first : Placement) (rest : List Placement) → placement_form first ++ flat_map next_form rest ≡ sequence_form (without_keys (first ∷ rest))
+-- as they are written: the first one, and then those that follow
+abbrev pub plain_form : List Placement → List ℕ
+plain_form [] = []
+plain_form (first ∷ rest) = placement_form first ++ flat_map next_form rest
+
+pub plain_is : (s : List Placement) → plain_form s ≡ sequence_form (without_keys s)
 unfolding sequence_form
-plain_is first [] = refl
-plain_is first (second ∷ rest) = λ i. sym (append-nil (placement_form first)) i ++ 32 ∷ plain_is second rest i
+plain_is [] = refl
+plain_is (first ∷ []) = refl
+plain_is (first ∷ second ∷ rest) = λ i. sym (append-nil (placement_form first)) i ++ 32 ∷ plain_is (second ∷ rest) i

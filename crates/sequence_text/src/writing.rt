@@ -31,7 +31,7 @@ fn push_placement(text: &mut SequenceText, placement: &Placement)
     push(text, placement_text(placement).as_slice())
 }
 
-#[tactic(auto, using(crate::proofs::PlainForm::plain_is), unfolding(crate::specs::Written::sequence_form))]
+#[tactic(auto, unfolding(crate::specs::Written::sequence_form))]
 fn push_sequence(text: &mut SequenceText, placements: &[Placement])
     requires empty { text.old.items ≡ [] }
     requires few { length placements.now ≤ 38 }

@@ -1,5 +1,5 @@
 -- What the flood holds is the places of the kind, in order.
-use Rattle.std.proofs.Common.{◌≡◌, subst, rules}
+use Rattle.std.proofs.Common.{◌≡◌, refl, subst, rules}
 use Rattle.reach.specs.FloodRules.{flood_table}
 use Rattle.srs.proofs.CallerLemmas.{some_same}
 use Rattle.well.specs.Well.{filled}
@@ -15,7 +15,8 @@ invariant_of-self g c =
 
 pub returns-clause-places : goal.returns-clause-places
 unfolding state_of
-returns-clause-places g c = search (rules, flooded-places)
+returns-clause-places g c =
+    flooded-places (flood_table c.args.rules.now) (filled c.args.self.now.setup.well) c.args.drop_mode c.args.piece c.places_of.result c.places_of.ensures.piece c.args.self.now.setup.rows c.places_of.ensures.held (state_of (flood_table c.args.rules.now) c.args.drop_mode c.args.self.now.setup) refl refl refl
 
 pub returns-clause-piece : goal.returns-clause-piece
 returns-clause-piece g c = λ x is. subst (λ p. piece_of p ≡ c.args.piece) (some_same is) c.places_of.ensures.piece
