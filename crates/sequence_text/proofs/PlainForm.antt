@@ -1,18 +1,9 @@
--- Placements without keys, one after the other.
-use Rattle.std.proofs.Common.{◌≡◌, ℕ, List, [], ◌∷◌, ◌++◌, append-nil, refl, sym}
-use Rattle.std.specs.List.{flat_map}
+-- The text of placements without keys is that of placements with none.
+use Rattle.std.proofs.Common.{◌≡◌, List, [], ◌∷◌, ◌++◌, append-nil, refl, sym}
 use Rattle.srs.specs.declared.placement.Placement.{Placement}
 use Rattle.placement_form.specs.Form.{placement_form}
+use Rattle.sequence_text.specs.Plain.{plain_form}
 use Rattle.sequence_text.specs.Written.{sequence_form, without_keys}
-
--- a placement that follows another one: a blank stands before it
-abbrev pub next_form : Placement → List ℕ
-next_form placement = 32 ∷ placement_form placement
-
--- as they are written: the first one, and then those that follow
-abbrev pub plain_form : List Placement → List ℕ
-plain_form [] = []
-plain_form (first ∷ rest) = placement_form first ++ flat_map next_form rest
 
 pub plain_is : (s : List Placement) → plain_form s ≡ sequence_form (without_keys s)
 unfolding sequence_form

@@ -4,6 +4,7 @@ ghost use Rattle.std.specs.Option.{ForSome};
 ghost use Rattle.arrayvec.specs.ArrayVec.{array_vec_len};
 ghost use Rattle.moves.specs.Keys.{key_letter};
 ghost use Rattle.placement_form.specs.Form.{placement_form};
+ghost use Rattle.sequence_text.specs.Plain.{plain_form};
 ghost use Rattle.sequence_text.specs.Written.{keyed_form, keys_form, sequence_form, without_keys};
 
 use arrayvec::ArrayVec;
@@ -31,11 +32,10 @@ fn push_placement(text: &mut SequenceText, placement: &Placement)
     push(text, placement_text(placement).as_slice())
 }
 
-#[tactic(auto, unfolding(crate::specs::Written::sequence_form))]
 fn push_sequence(text: &mut SequenceText, placements: &[Placement])
     requires empty { text.old.items ≡ [] }
     requires few { length placements.now ≤ 38 }
-    ensures items { text.new.items ≡ sequence_form (without_keys placements.now) }
+    ensures items { text.new.items ≡ plain_form placements.now }
     ensures len { array_vec_len text.new ≤ 417 }
 {
     let [first, rest @ ..] = placements else {

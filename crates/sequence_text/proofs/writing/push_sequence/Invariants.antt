@@ -2,7 +2,7 @@
 use Rattle.std.proofs.Common.{◌≡◌, ◌+◌, ◌*◌, ◌≤◌, ◌++◌, take}
 use Rattle.std.specs.List.{flat_map}
 use Rattle.arrayvec.specs.ArrayVec.{array_vec_len}
-use Rattle.sequence_text.proofs.PlainForm.{next_form}
+use Rattle.sequence_text.specs.Plain.{next_form}
 use Rattle.sequence_text.proofs.writing.push_sequence.Given as goal
 
 abbrev pub invariant-loop-placement : goal.invariant-loop-placement
