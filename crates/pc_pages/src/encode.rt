@@ -47,7 +47,6 @@ fn list_pages(alloc: Global, bytes: &[u8]) -> Result<Vec<Page>, Refused<Fault>>
 }
 
 /// The fumen text of the pages whose lines the bytes are. A refusal is the first fault, or that memory ran out.
-#[tactic(auto, using(std::proofs::lemmas::Result::err_from_is_err_and, fumen_digits::proofs::CallerLemmas::err_passed))]
 fn encoded(alloc: Global, dialect: Dialect, bytes: &[u8]) -> Result<Vec<u8>, Refused<Fault>>
     ensures text { IfOk result (λ text. IsEncodeOutput dialect bytes.now (text.items ++ 10 ∷ [])) }
     ensures none { OnOk result (encode_fault dialect bytes.now ≡ None) }

@@ -29,6 +29,13 @@ returns-in_err-pages-clause-refused c =
     let p = err_from_is_err_and c.from_residual.result c.from_residual.ensures.1 in
     rw (p.1, p.2) (lines_refused c.args.dialect c.args.bytes.now c.in_err-pages.field-0.0 c.in_err-pages.ensures.refused)
 
+pub returns-in_err-pages-clause-memory : goal.returns-in_err-pages-clause-memory
+returns-in_err-pages-clause-memory c = λ none.
+    let p = err_from_is_err_and c.from_residual.result c.from_residual.ensures.1 in
+    let here = p.1 in
+    let same = p.2 in
+    c.in_err-pages.ensures.memory cc
+
 pub returns-in-Ok-clause-none : goal.returns-in-Ok-clause-none
 returns-in-Ok-clause-none c =
     fault_of c.args.dialect c.args.bytes.now c.in_ok-pages.pages.items c.deref.result.now None c.in_ok-pages.ensures.pages c.deref.ensures.value c.in-Ok.ensures.fault
