@@ -18,4 +18,6 @@ mod spread;
 mod start;
 
 pub use answers::Answers;
+// (known to callers by this name; its home is below)
+pub use queue_lines::rate;
 pub use start::solvable;

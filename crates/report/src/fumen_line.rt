@@ -47,10 +47,7 @@ impl FumenWriter {
         Ok(FumenWriter { pages })
     }
 
-    /// Writes a sequence that solves the problem as a fumen text with one page for each placement, and a newline. The
-    /// first page has the well's cells in grey and the colour flag. Each later page has the cells that the page before
-    /// it leaves. Each page has its placement as the operation, and locks. If keys are written, its comment is the key
-    /// word of the placement in the field before it, and `H`. If memory runs out, nothing was written.
+    /// Writes a sequence as `write_fumen_line` does.
     pub fn write_line<O: Sink>(
         &mut self,
         alloc: Global,
@@ -196,4 +193,27 @@ fn text_of(alloc: Global, pages: &[Page]) -> Result<Vec<u8>, NoMemory>
     };
     text.push(b'\n')?;
     Ok(text)
+}
+
+/// Writes a sequence that solves the problem as a fumen text with one page for each placement, and a newline. The first
+/// page has the well's cells in grey and the colour flag. Each later page has the cells that the page before it leaves.
+/// Each page has its placement as the operation, and locks. If keys are written, its comment is the key word of the
+/// placement in the field before it, and `H`. If memory runs out, nothing was written.
+pub fn write_fumen_line<O: Sink>(
+    alloc: Global,
+    out: &mut O,
+    problem: &Problem,
+    sequence: &Sequence,
+    keys: &mut WrittenKeys,
+) -> Result<(), WriteFault>
+    requires { PlaysIn problem.now sequence.now.items }
+    ensures written { WritesAll (O.written out.old) (O.written out.new) result
+        (fumen_form (key_part (has_keys keys.old) (table_of problem.now.rules) problem.now.drop_mode)
+        (filled problem.now.well) sequence.now.items) }
+    ensures untouched { result ≡ Err WriteFault.NoMemory → out.new ≡ out.old }
+    ensures cause { HasWriteCause O.counts_failures_alone (O.faults out.old) (O.faults out.new) result }
+    ensures keys { has_keys keys.new ≡ has_keys keys.old }
+{
+    let mut writer = FumenWriter::new(alloc)?;
+    writer.write_line(alloc, out, problem, sequence, keys)
 }
