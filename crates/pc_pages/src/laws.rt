@@ -14,8 +14,17 @@ ghost use Rattle.pc_faults.specs.declared.fault.Fault.TheVariants as faults;
 ghost use Rattle.pc_source.specs.Faults.{page_fault};
 ghost use Rattle.pc_source.specs.Task.{first_fault, most_bytes};
 ghost use Rattle.pc_pages.specs.Faults.{encode_fault};
-ghost use Rattle.pc_pages.specs.Output.{IsDecodeOutput, IsEncodeOutput};
+ghost use Rattle.pc_pages.specs.Output.{IsDecodeOutput, IsEncodeOutput, IsShowOutput};
 ghost use Rattle.pc_pages.specs.Tasks.{decode_task, encode_task, show_task};
+
+/// The output of `decode`, `encode` and `show` depends only on the bytes of the source.
+pub fn outputs_are_determined()
+    ensures decode { (bytes one other : List ℕ) → IsDecodeOutput bytes one → IsDecodeOutput bytes other → one ≡ other }
+    ensures encode { (dialect : Dialect) (bytes one other : List ℕ) → IsEncodeOutput dialect bytes one
+        → IsEncodeOutput dialect bytes other → one ≡ other }
+    ensures show { (asked : Option ℕ) (bytes one other : List ℕ) → IsShowOutput asked bytes one
+        → IsShowOutput asked bytes other → one ≡ other }
+{}
 
 /// The lines that `decode` writes are valid input for `encode`: they spell the pages that were decoded.
 pub fn decoded_lines_spell_their_pages()

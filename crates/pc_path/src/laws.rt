@@ -1,5 +1,5 @@
 // Laws of the definitions: functions with an empty body whose contract is the law.
-ghost use Rattle.std.specs.Prelude.{◌≡◌, ◌↔◌, ◌++◌, ℕ, Bool, false, List, [], ◌∷◌, Some, None};
+ghost use Rattle.std.specs.Prelude.{◌≡◌, ◌↔◌, ◌++◌, ℕ, Bool, true, false, List, [], ◌∷◌, Some, None};
 ghost use Rattle.srs.specs.declared.placement.Placement.{Placement};
 ghost use Rattle.srs.specs.Rules.{table_of};
 ghost use Rattle.well.specs.Well.{filled};
@@ -14,6 +14,15 @@ ghost use Rattle.pc_source.specs.FieldText.{field_needs};
 ghost use Rattle.pc_source.specs.Task.{is_source};
 ghost use Rattle.pc_path.specs.Faults.{after_fault};
 ghost use Rattle.pc_path.specs.PathTask.{path_fault, path_task};
+
+/// The output of `path` depends only on its words, on the bytes of the source if it reads it, and with `--stats yes` on
+/// the number of floods.
+pub fn path_output_is_determined()
+    ensures { (request : PathRequest) (bytes one other : List ℕ) (floods others : ℕ)
+        → (request.stats ≡ true → floods ≡ others)
+        → (path_task request).IsOutput bytes floods one → (path_task request).IsOutput bytes others other
+        → one ≡ other }
+{}
 
 /// If `path` doesn't read the source, its first fault and its output are the same whatever bytes the source has.
 pub fn unread_bytes_do_not_matter()

@@ -1,11 +1,12 @@
 // Laws of the definitions: functions with an empty body whose contract is the law.
-ghost use Rattle.std.specs.Prelude.{◌≡◌, ◌≤◌, ◌<◌, ℕ, length, None};
+ghost use Rattle.std.specs.Prelude.{◌≡◌, ◌≤◌, ◌<◌, ℕ, List, length, None};
 ghost use Rattle.fumen_digits.specs.declared.dialect.Dialect.TheVariants.{V115};
 ghost use Rattle.fumen_text.specs.Texts.{ReadsAs};
 ghost use Rattle.fumen_text.specs.Written.{list_encode_fault, written};
 ghost use Rattle.sample_pages.specs.Pages.{column_drawn, sample_pages};
 ghost use Rattle.problem.specs.declared.problem.Problem.{Problem};
 ghost use Rattle.problem.specs.Problem.{IsFit};
+ghost use Rattle.pc_selfrun.specs.Output.{IsSelfrunOutput};
 ghost use Rattle.pc_selfrun.specs.Problem.{IsColumnProblem};
 
 use fumen_text::laws::encode_undone;
@@ -25,4 +26,10 @@ pub fn made_pages_are_read_again()
 pub fn column_problems_are_fit()
     ensures drawn { (number pages : ℕ) → column_drawn number pages < 7 }
     ensures fit { (column : ℕ) (problem : Problem) → column < 7 → IsColumnProblem column problem → IsFit problem }
+{}
+
+/// The output of `selfrun` depends only on its number and the number of pages.
+pub fn output_is_determined()
+    ensures { (number pages : ℕ) (one other : List ℕ) → IsSelfrunOutput number pages one
+        → IsSelfrunOutput number pages other → one ≡ other }
 {}
