@@ -16,7 +16,8 @@ is piece p = piece_code p == piece_code piece
 pub record IsSet (pieces : List Piece) : Type 0 where
   pub once : (piece : Piece) → count_by (is piece) pieces ≤ 1
 
-abbrev one_if : Bool → ℕ
+-- what an element adds to a count
+abbrev pub one_if : Bool → ℕ
 one_if b = cond b 1 0
 
 count-cons : {X : Type 0} (p : X → Bool) (x : X) (xs : List X) → count_by p (x ∷ xs) ≡ cond (p x) 1 0 + count_by p xs

@@ -1,6 +1,6 @@
 -- Products of falling factors.
 use Rattle.std.proofs.Common.{◌≡◌, ℕ, zero, suc, ◌+◌, ◌-◌, ◌*◌, ◌^◌, ◌<◌, ◌≤◌, ap, sym, ◌∙◌, arith, lit<, add-one, rules}
-use Rattle.std.proofs.Math.Nat.{mul-le-mul, mul_assoc, pow-suc, mul-one, pow-le-pow_right}
+use Rattle.std.proofs.Math.Nat.{mul-le-mul, mul_assoc, pow-suc, mul-one, one-mul, pow-le-pow_right}
 use Rattle.queue_pattern.specs.Queues.{falling_factor}
 
 pub falling_factor-more : (m n k : ℕ) → n ≡ suc k → falling_factor m n ≡ m * falling_factor (m - 1) k
@@ -32,3 +32,14 @@ falling_factor-some (suc n) m within = let rest = falling_factor-some n (m - 1) 
 pub all_taken : (product m n whole : ℕ) → n ≡ 0 → product * falling_factor m n ≡ whole → product ≡ whole
 unfolding falling_factor
 all_taken product m n whole none is = search (rules, mul-one)
+
+-- some factors are taken, then the others
+pub falling_factor-add : (k j n m : ℕ) → n ≡ k + j → falling_factor m n ≡ falling_factor m k * falling_factor (m - k) j
+unfolding falling_factor
+falling_factor-add zero j n m is =
+    ap (falling_factor m) (omega (arith, is)) ∙ ap (λ p. falling_factor p j) (omega arith) ∙ sym (one-mul (falling_factor (m - 0) j))
+falling_factor-add (suc k) j n m is =
+    falling_factor-more m n (k + j) (omega (arith, is))
+    ∙ ap (λ f. m * f) (falling_factor-add k j (k + j) (m - 1) (omega arith))
+    ∙ sym (mul_assoc m (falling_factor (m - 1) k) (falling_factor (m - 1 - k) j))
+    ∙ ap (λ p. m * falling_factor (m - 1) k * falling_factor p j) (omega arith)

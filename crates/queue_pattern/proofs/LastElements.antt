@@ -54,7 +54,7 @@ sound-last elements zero sound = sound
 sound-last [] (suc first) sound = refl
 sound-last (element ∷ elements) (suc first) sound = sound-last elements first (and_parts (is_sound element) (list_all is_sound elements) sound).1
 
-fewer-behind : (elements : List Element) (first : ℕ) → list_all is_sound elements ≡ true → queue_count (drop first elements) ≤ queue_count elements
+pub fewer-behind : (elements : List Element) (first : ℕ) → list_all is_sound elements ≡ true → queue_count (drop first elements) ≤ queue_count elements
 unfolding queue_count
 fewer-behind elements zero sound = omega arith
 fewer-behind [] (suc first) sound = omega arith

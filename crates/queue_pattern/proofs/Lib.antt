@@ -29,4 +29,7 @@ mod FaultExplained
 mod FaultsFound
 mod FaultLaws
 mod PatternMade
+mod CutLemmas
+mod CutQueues
+mod FrontLemmas
 pub mod CallerLemmas

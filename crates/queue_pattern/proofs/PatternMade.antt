@@ -33,7 +33,7 @@ letters_small (byte ∷ letters) so_far total small spelled =
 some_chosen : (size n : ℕ) (text : List ℕ) → SpellsChosen size text n → 0 < size → 0 < n
 some_chosen size n text h3 some = search rules
 
-sound_of : (set n : ℕ) → set < 128 → 0 < n → n ≤ length (pieces_in set) → is_sound (record { set = set; chosen = n }) ≡ true
+pub sound_of : (set n : ℕ) → set < 128 → 0 < n → n ≤ length (pieces_in set) → is_sound (record { set = set; chosen = n }) ≡ true
 unfolding is_sound
 sound_of set n small some enough = search (rules, and_from, nat_lt, nat_le, lt-ltb, le-leb)
 

@@ -1,5 +1,6 @@
 // Laws of the definitions: functions with an empty body whose contract is the law.
 ghost use Rattle.std.specs.Prelude.{◌≡◌, ◌≢◌, ◌↔◌, [], ◌∷◌, ℕ, ◌<◌, ◌≤◌, List, Ok, Err, All, length, slice_get};
+ghost use Rattle.std.specs.Prelude.{◌*◌, ◌/◌, slice_index_or, take};
 ghost use Rattle.std.specs.List.Sorted.{IsStrictlySortedBy};
 ghost use Rattle.srs.specs.declared.piece.Piece.{Piece};
 ghost use Rattle.srs.specs.Forms.{LeavesForm};
@@ -7,6 +8,7 @@ ghost use Rattle.queue_pattern.specs.declared.element.Element.{Element};
 ghost use Rattle.queue_pattern.specs.declared.fault.PatternFault.{PatternFault};
 ghost use Rattle.queue_pattern.specs.declared.fault.PatternFault.TheVariants.{Unexpected};
 ghost use Rattle.queue_pattern.specs.declared.pattern.Pattern.{Pattern};
+ghost use Rattle.queue_pattern.specs.Cut.{cut};
 ghost use Rattle.queue_pattern.specs.Faults.{IsPatternFault, IsUnexpectedAt};
 ghost use Rattle.queue_pattern.specs.Form.{HasForm};
 ghost use Rattle.queue_pattern.specs.Grammar;
@@ -37,6 +39,17 @@ pub fn queues_rise()
 pub fn patterns_are_within_limits()
     ensures some { (pattern : Pattern) → 0 < length (queues (elements_of pattern)) }
     ensures short { (pattern : Pattern) → queue_len (elements_of pattern) ≤ 22 }
+{}
+
+/// The queues that begin alike stand together: each queue of a pattern that is cut is the front of equally many queues
+/// of the whole. The front of a queue has the queue's number, divided by how many queues share a front.
+pub fn queues_are_cut()
+    ensures divided { (elements : List Element) (pieces : ℕ) →
+        (factor : ℕ) × (length (queues elements) ≡ factor * length (queues (cut pieces elements))) }
+    ensures fronts { (elements : List Element) (pieces factor number : ℕ) →
+        length (queues elements) ≡ factor * length (queues (cut pieces elements)) → number < length (queues elements) →
+        slice_index_or (queues (cut pieces elements)) (number / factor) []
+        ≡ take pieces (slice_index_or (queues elements) number []) }
 {}
 
 /// The pattern with each piece of one queue as an element stands for this queue and no other.

@@ -6,7 +6,7 @@ mod element;
 mod fault;
 pub mod laws;
 mod pattern;
-mod sets;
+pub mod sets;
 mod text;
 
 pub use element::Element;

@@ -37,6 +37,7 @@ pub struct Pattern {
 impl Pattern {
     ghost use Rattle.std.specs.Prelude.{IfOk, IfErr, Ok, Err, Some, slice_get, List, drop};
     ghost use Rattle.queue_pattern.specs.Builder.{Holds};
+    ghost use Rattle.queue_pattern.specs.Cut.{cut};
     ghost use Rattle.queue_pattern.specs.Grammar.{elements, limited, singles};
     ghost use Rattle.queue_pattern.specs.Pattern.{elements_of};
     ghost use Rattle.queue_pattern.specs.Queues.{queues};
@@ -65,6 +66,28 @@ impl Pattern {
         'pieces: for piece in queue.as_slice() {
             let set = set_of_one(*piece);
             builder.add(Element { set, chosen: 1 });
+        }
+        match Pattern::within_limits(builder) {
+            Ok(pattern) => pattern,
+            Err(_) => unreachable!(),
+        }
+    }
+
+    /// The pattern of the first pieces of each queue, as many as this number or all.
+    pub fn cut(&self, pieces: u8) -> Pattern
+        ensures { elements_of result ≡ cut pieces (elements_of self.now) }
+    {
+        let mut builder = Builder::new();
+        let mut left = pieces;
+        'elements: for element in &self.elements[..self.number as usize] {
+            let chosen = element.chosen.min(left);
+            if chosen > 0 {
+                builder.add(Element {
+                    set: element.set,
+                    chosen,
+                });
+            }
+            left -= chosen;
         }
         match Pattern::within_limits(builder) {
             Ok(pattern) => pattern,
