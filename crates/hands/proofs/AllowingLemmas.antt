@@ -1,17 +1,21 @@
 -- What hands allow, one sum and one hand more.
-use Rattle.std.proofs.Common.{◌≡◌, ℕ, suc, ◌+◌, ◌-◌, ◌*◌, ◌/◌, ◌%◌, ◌^◌, ◌<◌, ◌≤◌, true, ◌||◌, bit_or, List, length, get_or, refl, sym, ap, subst, ◌∙◌, inl, inr, arith}
+use Rattle.std.proofs.Common.{◌≡◌, ℕ, suc, ◌+◌, ◌-◌, ◌*◌, ◌/◌, ◌%◌, ◌^◌, ◌<◌, ◌≤◌, true, ◌||◌, ◌==◌, bit_or, List, length, get_or, refl, sym, ap, subst, ◌∙◌, inl, inr, arith}
 use Rattle.std.proofs.Common.{set as list_set}
 use Rattle.std.proofs.Math.Bool.{or-true, true-or}
 use Rattle.std.proofs.lemmas.Bool.{both_ways, cases_eq, cases_lt, eq-eqb, or_parts}
 use Rattle.std.proofs.lemmas.List.{get_or-set_other}
 use Rattle.std.proofs.lemmas.Grind.{get_or-set_at}
+use Rattle.std.proofs.lemmas.Nat.{one_shl}
 use Rattle.lane_board.specs.Lanes.{has_bit}
-use Rattle.lane_board.proofs.CallerLemmas.{has_bit-or}
+use Rattle.lane_board.proofs.CallerLemmas.{has_bit-or, has_bit-pow}
 use Rattle.hold_queue.specs.declared.hold.Hold.{Hold}
 use Rattle.hold_queue.specs.declared.hold.Hold.TheVariants.{Allowed, Avoided}
 use Rattle.hands.specs.Weights.{AllowsTaken, AreNoted, KeepsBits, code_at, first_weights}
-use Rattle.hands.proofs.PieceBits.{has_bit-one}
 use Rattle.hands.proofs.WeightLemmas.{allows-but-one, allows-first}
+
+-- one bit alone
+pub has_bit-one : (x k : ℕ) → x < 64 → has_bit (1 * 2 ^ x % 2 ^ 64) k ≡ (k == x)
+has_bit-one x k small = ap (λ n. has_bit n k) (one_shl x 64 small) ∙ has_bit-pow x k
 
 -- ---- bits that are kept
 

@@ -1,18 +1,12 @@
--- What rising lists have, one number on.
+-- What lists have, one number on.
 use Rattle.std.proofs.Common.{ℕ, suc, inl, inr, ◌≡◌, ◌+◌, ◌<◌, ◌≤◌, true, false, ◌||◌, ◌==◌, List, [], ◌∷◌, ◌++◌, length, get_or, take, refl, ap, ◌∙◌, arith}
 use Rattle.std.specs.List.{list_any}
 use Rattle.std.proofs.lemmas.Bool.{eqb-true, false≢true, or_cases}
 use Rattle.std.proofs.lemmas.Bool.Decides.{nat_tests}
 use Rattle.std.proofs.lemmas.List.{take_all}
 use Rattle.std.proofs.lemmas.List.Folds.{list_any-append, list_any_at, list_any_more}
-use Rattle.std.proofs.lemmas.Grind.{common_steps}
 use Rattle.std.proofs.Math.Bool.{or-false}
-use Rattle.hands.specs.BlockHands.{IsRising}
 use Rattle.hands.specs.Numbers.{has_number}
-
--- each number is below a bound
-abbrev pub AllBelow : List ℕ → ℕ → Type 0
-AllBelow xs bound = (i : ℕ) → i < length xs → get_or xs i 0 < bound
 
 pub has-push : (xs : List ℕ) (y number : ℕ) → has_number (xs ++ y ∷ []) number ≡ (has_number xs number || y == number)
 unfolding has_number
@@ -40,6 +34,3 @@ number-at (x ∷ xs) number there = elim (or_cases (x == number) (list_any (λ y
   | inl first ↦ (0, omega arith, eqb-true x number first)
   | inr later ↦ let w = number-at xs number later in (suc w.0, omega (arith, w.1), w.2)
 ]
-
-pub rising-push : (xs : List ℕ) (y : ℕ) → IsRising xs → AllBelow xs y → IsRising (xs ++ y ∷ [])
-rising-push xs y up all i j before within = grind (arith, common_steps, up i j before, all i)

@@ -35,10 +35,3 @@ takes hold code goes_on hand =
 unfoldable pub takes_all : Hold → ℕ → List Piece → Bool
 takes_all hold hand [] = true
 takes_all hold hand (piece ∷ more) = takes hold (piece_code piece) (λ rest. takes_all hold rest more) hand
-
--- with a first piece more, and with a piece more behind the first
-unfoldable pub with_first : ℕ → ℕ → ℕ
-with_first code rest = rest * 8 + code
-
-unfoldable pub with_second : ℕ → ℕ → ℕ
-with_second code rest = rest / 8 * 64 + (code * 8 + rest % 8)

@@ -387,7 +387,3 @@ pub narrowed : (marks : Marks) (left : ℕ) (hands : List ℕ) (index : ℕ) (us
 narrowed marks left hands index used old new within at same keeps is_used all hand there =
     let Holds : Mark → Type 0 = ListsHand (empty_cells marks.cells) marks.drops marks.game.hold left hand in
     All-set Holds marks.known.items index new (kept-lists marks left hand used old new same keeps (is_used hand there) (subst Holds (sym at) (all.each hand there index old within))) (all.each hand there)
-
--- the marks are those of some of the hands
-pub fewer-lists : (marks : Marks) (left : ℕ) (few many : ℕ → Bool) → ((hand : ℕ) → few hand ≡ true → many hand ≡ true) → AreMarksOf marks left many → AreMarksOf marks left few
-fewer-lists marks left few many fewer all = record { each = λ hand there. all.each hand (fewer hand there) }

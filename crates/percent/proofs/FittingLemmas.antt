@@ -1,11 +1,11 @@
--- Hands that are left out are not good, one hand on.
+-- Tails that are left out are not good, one tail on.
 use Rattle.std.proofs.Common.{ℕ, suc, ◌≡◌, ◌+◌, ◌-◌, ◌/◌, ◌%◌, ◌<◌, ◌≤◌, Bool, true, false, ◌&&◌, ◌||◌, ◌==◌, cond, List, [], ◌∷◌, length, length-set, get_or, take, refl, sym, ap, subst, ◌∙◌, inl, inr, arith, rules}
 use Rattle.std.proofs.Common.{set as list_set, slice_index}
 use Rattle.std.proofs.Math.Bool.{and-false, and-true, or-false, or-true, or_assoc}
 use Rattle.std.proofs.Math.Path.{fun_ext}
 use Rattle.std.proofs.lemmas.List.{get_or-set_other}
 use Rattle.std.proofs.lemmas.Grind.{get_or-set_at}
-use Rattle.std.proofs.lemmas.Bool.{cases_eq, false_from_ne_true, eqb-true, false≢true, or_left}
+use Rattle.std.proofs.lemmas.Bool.{cases_eq, false_from_ne_true, eqb-true, false≢true, or_left, or_right}
 use Rattle.std.proofs.lemmas.Bool.Decides.{nat_tests}
 use Rattle.lane_board.specs.Field.{difference, rows_below}
 use Rattle.srs.specs.declared.piece.Piece.{Piece}
@@ -17,16 +17,20 @@ use Rattle.prune.proofs.CallerLemmas.{more_pieces}
 use Rattle.empty_cells.specs.declared.empties.Empties.{Empties}
 use Rattle.empty_cells.specs.Empties.{all_but, empty_cells}
 use Rattle.empty_cells.proofs.CallerLemmas.{tiling_below}
-use Rattle.hands.specs.declared.hand_set.HandSet.{HandSet}
-use Rattle.hands.specs.HandSets.{block_count, has}
 use Rattle.hands.specs.Numbers.{has_number}
-use Rattle.hands.proofs.CallerLemmas.{has-all, has-more, has-none, has-there, none-counted}
+use Rattle.hands.proofs.CallerLemmas.{has-all, has-more, has-none}
+use Rattle.tails.specs.declared.tail_set.TailSet.{TailSet}
+use Rattle.tails.specs.declared.tree.TailTree.{TailTree}
+use Rattle.tails.specs.TailSets.{block_count, has}
+use Rattle.tails.specs.Tails.{AreTails}
+use Rattle.tails.proofs.CallerLemmas.{none-counted}
 use Rattle.problem.proofs.CallerLemmas.{IsLow}
 use Rattle.percent.specs.declared.game.Game.{Game}
 use Rattle.percent.specs.declared.position.Position.{Position}
 use Rattle.percent.specs.Counts.{supply_by}
 use Rattle.percent.specs.Fitting.{codes_in, supply_at}
 use Rattle.percent.specs.GoodHands.{is_good}
+use Rattle.percent.specs.GoodTails.{is_good_tail}
 use Rattle.percent.specs.LeftOut.{LeavesOutBad}
 use Rattle.percent.proofs.TiledLemmas.{codes-few, good-tiled}
 
@@ -53,34 +57,30 @@ unfit game p cells counts left hand count one cells_are most none =
     untiled game p left hand count (supply_by counts) (omega (arith, one)) (λ piece. most (piece_code piece) (let few = piece_code-small piece in omega arith))
     (λ tiled. none (subst (λ E. Tiling (all_but E) 8 (supply_by counts)) (sym cells_are) ((tiling_below (filled p.well) p.rows 8 (supply_by counts) p.few).1 tiled)))
 
--- ---- the hands that are kept
+-- ---- the tails that are kept
 
--- where no hand is good none need be kept
-pub none-kept : (v : HandSet) (asked good : ℕ → Bool) → ((hand : ℕ) → asked hand ≡ true → good hand ≡ false) → ((hand : ℕ) → has v hand ≡ false) → LeavesOutBad good asked (has v)
-none-kept v asked good bad none = record { fewer = λ hand there. absurd (false≢true (sym (none hand) ∙ there)); same = same }
+-- where no tail is good none need be kept
+pub none-kept : (v : TailSet) (asked good : ℕ → Bool) → ((tail : ℕ) → asked tail ≡ true → good tail ≡ false) → ((tail : ℕ) → has v tail ≡ false) → LeavesOutBad good asked (has v)
+none-kept v asked good bad none = record { fewer = λ tail there. absurd (false≢true (sym (none tail) ∙ there)); same = same }
   where
-    same : (hand : ℕ) → (has v hand && good hand) ≡ (asked hand && good hand)
-    same hand = search rules
+    same : (tail : ℕ) → (has v tail && good tail) ≡ (asked tail && good tail)
+    same tail = search rules
 
--- what is left of some hands is left of the same ones
-pub same-asked : (good asked hands fit : ℕ → Bool) → ((hand : ℕ) → asked hand ≡ hands hand) → LeavesOutBad good asked fit → LeavesOutBad good hands fit
-same-asked good asked hands fit same leaves = subst (λ (hands : ℕ → Bool). LeavesOutBad good hands fit) (fun_ext same) leaves
+-- what is left of some tails is left of the same ones
+pub same-asked : (good asked tails fit : ℕ → Bool) → ((tail : ℕ) → asked tail ≡ tails tail) → LeavesOutBad good asked fit → LeavesOutBad good tails fit
+same-asked good asked tails fit same leaves = subst (λ (tails : ℕ → Bool). LeavesOutBad good tails fit) (fun_ext same) leaves
 
--- a set has each hand of its list
-pub has-listed : (set : HandSet) (hands : List ℕ) (i : ℕ) → ((hand : ℕ) → has_number hands hand ≡ has set hand) → i < length hands → has set (get_or hands i 0) ≡ true
-has-listed set hands i listed within = sym (listed (get_or hands i 0)) ∙ has-there hands i (get_or hands i 0) within refl
-
--- of the first i hands those that are good are kept, and no other hand is
-abbrev pub Sifting : (ℕ → Bool) → List ℕ → HandSet → ℕ → Type 0
-Sifting good hands v i = LeavesOutBad good (has_number (take i hands)) (has v)
+-- of the first i tails those that are good are kept, and no other tail is
+abbrev pub Sifting : (ℕ → Bool) → List ℕ → TailSet → ℕ → Type 0
+Sifting good tails v i = LeavesOutBad good (has_number (take i tails)) (has v)
 
 both_none : (a b g : Bool) → a ≡ false → b ≡ false → (a && g) ≡ (b && g)
 both_none a b g first second = search rules
 
-pub sift-starts : (good : ℕ → Bool) (hands : List ℕ) (v : HandSet) → ((hand : ℕ) → has v hand ≡ false) → Sifting good hands v 0
-sift-starts good hands v none = record {
-  fewer = λ hand there. absurd (false≢true (sym (none hand) ∙ there));
-  same = λ hand. both_none (has v hand) (has_number [] hand) (good hand) (none hand) (has-none hand);
+pub sift-starts : (good : ℕ → Bool) (tails : List ℕ) (v : TailSet) → ((tail : ℕ) → has v tail ≡ false) → Sifting good tails v 0
+sift-starts good tails v none = record {
+  fewer = λ tail there. absurd (false≢true (sym (none tail) ∙ there));
+  same = λ tail. both_none (has v tail) (has_number [] tail) (good tail) (none tail) (has-none tail);
 }
 
 pushed : (a b e g : Bool) → (a && g) ≡ (b && g) → ((a || e) && g) ≡ ((b || e) && g)
@@ -92,25 +92,25 @@ passed a b e g h bad = search rules
 wider : (a b e : Bool) → (a ≡ true → b ≡ true) → (a || e) ≡ true → (b || e) ≡ true
 wider a b e more there = search rules
 
-pub sift-push : (good : ℕ → Bool) (hands : List ℕ) (v more : HandSet) (i : ℕ) → Sifting good hands v i → i < length hands
-    → ((other : ℕ) → has more other ≡ (has v other || get_or hands i 0 == other)) → Sifting good hands more (i + 1)
-sift-push good hands v more i state in_hands more_is = record {
-  fewer = λ hand there. has-more hands i hand in_hands ∙ wider (has v hand) (has_number (take i hands) hand) (get_or hands i 0 == hand) (state.fewer hand) (sym (more_is hand) ∙ there);
-  same = λ hand. ap (λ b. b && good hand) (more_is hand)
-      ∙ pushed (has v hand) (has_number (take i hands) hand) (get_or hands i 0 == hand) (good hand) (state.same hand)
-      ∙ ap (λ b. b && good hand) (sym (has-more hands i hand in_hands));
+pub sift-push : (good : ℕ → Bool) (tails : List ℕ) (v more : TailSet) (i : ℕ) → Sifting good tails v i → i < length tails
+    → ((other : ℕ) → has more other ≡ (has v other || get_or tails i 0 == other)) → Sifting good tails more (i + 1)
+sift-push good tails v more i state in_tails more_is = record {
+  fewer = λ tail there. has-more tails i tail in_tails ∙ wider (has v tail) (has_number (take i tails) tail) (get_or tails i 0 == tail) (state.fewer tail) (sym (more_is tail) ∙ there);
+  same = λ tail. ap (λ b. b && good tail) (more_is tail)
+      ∙ pushed (has v tail) (has_number (take i tails) tail) (get_or tails i 0 == tail) (good tail) (state.same tail)
+      ∙ ap (λ b. b && good tail) (sym (has-more tails i tail in_tails));
 }
 
-pub sift-pass : (good : ℕ → Bool) (hands : List ℕ) (v : HandSet) (i : ℕ) → Sifting good hands v i → i < length hands → good (get_or hands i 0) ≡ false → Sifting good hands v (i + 1)
-sift-pass good hands v i state in_hands bad = record {
-  fewer = λ hand there. has-more hands i hand in_hands ∙ or_left (has_number (take i hands) hand) (get_or hands i 0 == hand) (state.fewer hand there);
-  same = λ hand. passed (has v hand) (has_number (take i hands) hand) (get_or hands i 0 == hand) (good hand) (state.same hand)
-      (λ same. ap good (sym (eqb-true (get_or hands i 0) hand same)) ∙ bad)
-      ∙ ap (λ b. b && good hand) (sym (has-more hands i hand in_hands));
+pub sift-pass : (good : ℕ → Bool) (tails : List ℕ) (v : TailSet) (i : ℕ) → Sifting good tails v i → i < length tails → good (get_or tails i 0) ≡ false → Sifting good tails v (i + 1)
+sift-pass good tails v i state in_tails bad = record {
+  fewer = λ tail there. has-more tails i tail in_tails ∙ or_left (has_number (take i tails) tail) (get_or tails i 0 == tail) (state.fewer tail there);
+  same = λ tail. passed (has v tail) (has_number (take i tails) tail) (get_or tails i 0 == tail) (good tail) (state.same tail)
+      (λ same. ap good (sym (eqb-true (get_or tails i 0) tail same)) ∙ bad)
+      ∙ ap (λ b. b && good tail) (sym (has-more tails i tail in_tails));
 }
 
-pub sift-ends : (good asked : ℕ → Bool) (hands : List ℕ) (v : HandSet) (i : ℕ) → ((hand : ℕ) → has_number hands hand ≡ asked hand) → length hands ≤ i → Sifting good hands v i → LeavesOutBad good asked (has v)
-sift-ends good asked hands v i listed all state = same-asked good (has_number (take i hands)) asked (has v) (λ hand. has-all hands i hand all ∙ listed hand) state
+pub sift-ends : (good asked : ℕ → Bool) (tails : List ℕ) (v : TailSet) (i : ℕ) → ((tail : ℕ) → has_number tails tail ≡ asked tail) → length tails ≤ i → Sifting good tails v i → LeavesOutBad good asked (has v)
+sift-ends good asked tails v i listed all state = same-asked good (has_number (take i tails)) asked (has v) (λ tail. has-all tails i tail all ∙ listed tail) state
 
 -- ---- the greatest counts
 
@@ -206,16 +206,16 @@ raised xs counts i most within before here code low = search (rules, cases_eq, g
 pub raise-more : (a b counts : List ℕ) (i most : ℕ) → i < 8 → Raising a b counts i → get_or a i 0 ≤ most → get_or b i 0 ≤ most → Raising a b (list_set counts i most) (i + 1)
 raise-more a b counts i most low8 state first second = search (rules, length-set, raised)
 
--- ---- one part of the hands after the other
+-- ---- one part of the tails after the other
 
--- what fits so far and the rest are hands, and the good ones are among them
-abbrev pub FitsSoFar : (ℕ → Bool) → HandSet → HandSet → HandSet → Type 0
-FitsSoFar good hands fit rest = LeavesOutBad good (has hands) (λ hand. has fit hand || has rest hand)
+-- what fits so far and the rest are tails, and the good ones are among them
+abbrev pub FitsSoFar : (ℕ → Bool) → TailSet → TailSet → TailSet → Type 0
+FitsSoFar good tails fit rest = LeavesOutBad good (has tails) (λ tail. has fit tail || has rest tail)
 
-pub parts-start : (good : ℕ → Bool) (hands fit rest : HandSet) → ((hand : ℕ) → has fit hand ≡ false) → ((hand : ℕ) → has rest hand ≡ has hands hand) → FitsSoFar good hands fit rest
-parts-start good hands fit rest none same = record {
-  fewer = λ hand some. sym (λ i. none hand i || same hand i) ∙ some;
-  same = λ hand i. (none hand i || same hand i) && good hand;
+pub parts-start : (good : ℕ → Bool) (tails fit rest : TailSet) → ((tail : ℕ) → has fit tail ≡ false) → ((tail : ℕ) → has rest tail ≡ has tails tail) → FitsSoFar good tails fit rest
+parts-start good tails fit rest none same = record {
+  fewer = λ tail some. sym (λ i. none tail i || same tail i) ∙ some;
+  same = λ tail i. (none tail i || same tail i) && good tail;
 }
 
 part_fits : (fit part others more good : Bool) → (more && good) ≡ (part && good) → (((fit || more) || others) && good) ≡ ((fit || (part || others)) && good)
@@ -228,19 +228,32 @@ part_fewer true part others more fits some = refl
 part_fewer false part others true fits some = ap (λ b. b || others) (fits refl)
 part_fewer false part others false fits some = ap (λ b. part || b) some ∙ or-true part
 
-pub parts-more : (good : ℕ → Bool) (hands fit next rest part others more : HandSet) → ((hand : ℕ) → has rest hand ≡ (has part hand || has others hand)) → LeavesOutBad good (has part) (has more)
-    → ((hand : ℕ) → has next hand ≡ (has fit hand || has more hand)) → FitsSoFar good hands fit rest → FitsSoFar good hands next others
-parts-more good hands fit next rest part others more cut fits merged state = record {
-  fewer = λ hand some. state.fewer hand (ap (λ b. has fit hand || b) (cut hand)
-      ∙ part_fewer (has fit hand) (has part hand) (has others hand) (has more hand) (fits.fewer hand) (sym (ap (λ b. b || has others hand) (merged hand)) ∙ some));
-  same = λ hand.
-      ap (λ b. (b || has others hand) && good hand) (merged hand)
-      ∙ part_fits (has fit hand) (has part hand) (has others hand) (has more hand) (good hand) (fits.same hand)
-      ∙ ap (λ b. (has fit hand || b) && good hand) (sym (cut hand)) ∙ state.same hand;
+pub parts-more : (good : ℕ → Bool) (tails fit next rest part others more : TailSet) → ((tail : ℕ) → has rest tail ≡ (has part tail || has others tail)) → LeavesOutBad good (has part) (has more)
+    → ((tail : ℕ) → has next tail ≡ (has fit tail || has more tail)) → FitsSoFar good tails fit rest → FitsSoFar good tails next others
+parts-more good tails fit next rest part others more cut fits merged state = record {
+  fewer = λ tail some. state.fewer tail (ap (λ b. has fit tail || b) (cut tail)
+      ∙ part_fewer (has fit tail) (has part tail) (has others tail) (has more tail) (fits.fewer tail) (sym (ap (λ b. b || has others tail) (merged tail)) ∙ some));
+  same = λ tail.
+      ap (λ b. (b || has others tail) && good tail) (merged tail)
+      ∙ part_fits (has fit tail) (has part tail) (has others tail) (has more tail) (good tail) (fits.same tail)
+      ∙ ap (λ b. (has fit tail || b) && good tail) (sym (cut tail)) ∙ state.same tail;
 }
 
-pub parts-end : (good : ℕ → Bool) (hands fit rest : HandSet) → block_count rest ≡ 0 → FitsSoFar good hands fit rest → LeavesOutBad good (has hands) (has fit)
-parts-end good hands fit rest none state = record {
-  fewer = λ hand is. state.fewer hand (ap (λ b. b || has rest hand) is);
-  same = λ hand. ap (λ b. b && good hand) (sym (or-false (has fit hand)) ∙ ap (λ b. has fit hand || b) (sym (none-counted rest none hand))) ∙ state.same hand;
+pub parts-end : (good : ℕ → Bool) (tails fit rest : TailSet) → block_count rest ≡ 0 → FitsSoFar good tails fit rest → LeavesOutBad good (has tails) (has fit)
+parts-end good tails fit rest none state = record {
+  fewer = λ tail is. state.fewer tail (ap (λ b. b || has rest tail) is);
+  same = λ tail. ap (λ b. b && good tail) (sym (or-false (has fit tail)) ∙ ap (λ b. has fit tail || b) (sym (none-counted rest none tail))) ∙ state.same tail;
 }
+
+-- so it is for each game, and the rest are tails of the tree
+pub record FitsOfTree (tree : TailTree) (p : Position) (left : ℕ) (tails fit rest : TailSet) : Type 0 where
+  pub are_tails : AreTails tree (has rest)
+  pub so_far : (game : Game) → FitsSoFar (is_good_tail tree game (filled p.well) p.rows left) tails fit rest
+
+-- the tails of a list are those of a part of the rest
+pub part-tails : (tree : TailTree) (rest part others : TailSet) (numbers : List ℕ) → AreTails tree (has rest) → ((tail : ℕ) → has rest tail ≡ (has part tail || has others tail))
+    → ((tail : ℕ) → has_number numbers tail ≡ has part tail) → AreTails tree (has_number numbers)
+part-tails tree rest part others numbers are cut listed = λ tail there. are tail (cut tail ∙ or_left (has part tail) (has others tail) (sym (listed tail) ∙ there))
+
+pub other-tails : (tree : TailTree) (rest part others : TailSet) → AreTails tree (has rest) → ((tail : ℕ) → has rest tail ≡ (has part tail || has others tail)) → AreTails tree (has others)
+other-tails tree rest part others are cut = λ tail there. are tail (cut tail ∙ or_right (has part tail) (has others tail) there)

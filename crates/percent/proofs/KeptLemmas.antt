@@ -10,14 +10,15 @@ use Rattle.fact_table.proofs.CallerLemmas.{facts-entry, facts-none}
 use Rattle.lane_board.specs.Field.{intersection, rows_below}
 use Rattle.well.specs.Well.{filled}
 use Rattle.well.proofs.CallerLemmas.{filled-within}
-use Rattle.hands.specs.declared.hand_set.HandSet.{HandSet}
-use Rattle.hands.specs.HandSets.{has}
-use Rattle.hands.proofs.CallerLemmas.{none-counted}
+use Rattle.tails.specs.declared.tail_set.TailSet.{TailSet}
+use Rattle.tails.specs.declared.tree.TailTree.{TailTree}
+use Rattle.tails.specs.TailSets.{has}
+use Rattle.tails.proofs.CallerLemmas.{none-counted}
 use Rattle.well.specs.CellBits.{cells_in_bits}
 use Rattle.percent.specs.declared.game.Game.{Game}
 use Rattle.percent.specs.declared.position.Position.{Position}
 use Rattle.percent.specs.declared.kept.Slot.{Slot}
-use Rattle.percent.specs.GoodHands.{is_good}
+use Rattle.percent.specs.GoodTails.{is_good_tail}
 use Rattle.percent.specs.Kept.{blocks_in, blocks_of, IsTrueSlot}
 
 -- the cells below the rows left are all
@@ -39,40 +40,40 @@ pub bits-filled : (p : Position) (cells : ℕ) → cells_in_bits cells ≡ inter
 bits-filled p cells is = is ∙ all_below p
 
 -- a slot without blocks says nothing that is false
-empty-slot : (game : Game) (slot : Slot) → blocks_of slot ≡ 0 → IsTrueSlot game slot
+empty-slot : (tree : TailTree) (game : Game) (slot : Slot) → blocks_of slot ≡ 0 → IsTrueSlot tree game slot
 unfolding blocks_of
-empty-slot game slot none = record {
-  found_true = λ hand there. absurd (both_ways _ (none-counted slot.found (omega (arith, none)) hand) there);
-  missed_true = λ hand there. absurd (both_ways _ (none-counted slot.missed (omega (arith, none)) hand) there);
+empty-slot tree game slot none = record {
+  found_true = λ tail there. absurd (both_ways _ (none-counted slot.found (omega (arith, none)) tail) there);
+  missed_true = λ tail there. absurd (both_ways _ (none-counted slot.missed (omega (arith, none)) tail) there);
 }
 
 -- a slot with the cells and rows of a position is true of it
-pub slot-found : (game : Game) (slot : Slot) (p : Position) (left : ℕ) → IsTrueSlot game slot → cells_in_bits slot.cells ≡ filled p.well → slot.rows ≡ p.rows → slot.left ≡ left
-    → (hand : ℕ) → has slot.found hand ≡ true → is_good game (filled p.well) p.rows left hand ≡ true
-slot-found game slot p left is cells rows same hand there = (λ i. is_good game (sym cells i) (sym rows i) (sym same i) hand) ∙ is.found_true hand there
+pub slot-found : (tree : TailTree) (game : Game) (slot : Slot) (p : Position) (left : ℕ) → IsTrueSlot tree game slot → cells_in_bits slot.cells ≡ filled p.well → slot.rows ≡ p.rows → slot.left ≡ left
+    → (tail : ℕ) → has slot.found tail ≡ true → is_good_tail tree game (filled p.well) p.rows left tail ≡ true
+slot-found tree game slot p left is cells rows same tail there = (λ i. is_good_tail tree game (sym cells i) (sym rows i) (sym same i) tail) ∙ is.found_true tail there
 
-pub slot-missed : (game : Game) (slot : Slot) (p : Position) (left : ℕ) → IsTrueSlot game slot → cells_in_bits slot.cells ≡ filled p.well → slot.rows ≡ p.rows → slot.left ≡ left
-    → (hand : ℕ) → has slot.missed hand ≡ true → is_good game (filled p.well) p.rows left hand ≡ false
-slot-missed game slot p left is cells rows same hand there = (λ i. is_good game (sym cells i) (sym rows i) (sym same i) hand) ∙ is.missed_true hand there
+pub slot-missed : (tree : TailTree) (game : Game) (slot : Slot) (p : Position) (left : ℕ) → IsTrueSlot tree game slot → cells_in_bits slot.cells ≡ filled p.well → slot.rows ≡ p.rows → slot.left ≡ left
+    → (tail : ℕ) → has slot.missed tail ≡ true → is_good_tail tree game (filled p.well) p.rows left tail ≡ false
+slot-missed tree game slot p left is cells rows same tail there = (λ i. is_good_tail tree game (sym cells i) (sym rows i) (sym same i) tail) ∙ is.missed_true tail there
 
 -- sets that have given answers, and of a position only true ones
-pub record AreTrueOf (game : Game) (p : Position) (left : ℕ) (found missed : HandSet) (both : HandSet × HandSet) : Type 0 where
-  pub found_true : (hand : ℕ) → has both.0 hand ≡ true → is_good game (filled p.well) p.rows left hand ≡ true
-  pub missed_true : (hand : ℕ) → has both.1 hand ≡ true → is_good game (filled p.well) p.rows left hand ≡ false
-  pub found_in : (hand : ℕ) → has found hand ≡ true → has both.0 hand ≡ true
-  pub missed_in : (hand : ℕ) → has missed hand ≡ true → has both.1 hand ≡ true
+pub record AreTrueOf (tree : TailTree) (game : Game) (p : Position) (left : ℕ) (found missed : TailSet) (both : TailSet × TailSet) : Type 0 where
+  pub found_true : (tail : ℕ) → has both.0 tail ≡ true → is_good_tail tree game (filled p.well) p.rows left tail ≡ true
+  pub missed_true : (tail : ℕ) → has both.1 tail ≡ true → is_good_tail tree game (filled p.well) p.rows left tail ≡ false
+  pub found_in : (tail : ℕ) → has found tail ≡ true → has both.0 tail ≡ true
+  pub missed_in : (tail : ℕ) → has missed tail ≡ true → has both.1 tail ≡ true
 
 -- the given ones alone
-pub true-alone : (game : Game) (p : Position) (left : ℕ) (found missed found_alone missed_alone : HandSet)
-    → ((hand : ℕ) → has found_alone hand ≡ has found hand) → ((hand : ℕ) → has missed_alone hand ≡ has missed hand)
-    → ((hand : ℕ) → has found hand ≡ true → is_good game (filled p.well) p.rows left hand ≡ true)
-    → ((hand : ℕ) → has missed hand ≡ true → is_good game (filled p.well) p.rows left hand ≡ false)
-    → AreTrueOf game p left found missed (found_alone, missed_alone)
-true-alone game p left found missed found_alone missed_alone found_is missed_is g n = record {
-  found_true = λ hand there. g hand (sym (found_is hand) ∙ there);
-  missed_true = λ hand there. n hand (sym (missed_is hand) ∙ there);
-  found_in = λ hand there. found_is hand ∙ there;
-  missed_in = λ hand there. missed_is hand ∙ there;
+pub true-alone : (tree : TailTree) (game : Game) (p : Position) (left : ℕ) (found missed found_alone missed_alone : TailSet)
+    → ((tail : ℕ) → has found_alone tail ≡ has found tail) → ((tail : ℕ) → has missed_alone tail ≡ has missed tail)
+    → ((tail : ℕ) → has found tail ≡ true → is_good_tail tree game (filled p.well) p.rows left tail ≡ true)
+    → ((tail : ℕ) → has missed tail ≡ true → is_good_tail tree game (filled p.well) p.rows left tail ≡ false)
+    → AreTrueOf tree game p left found missed (found_alone, missed_alone)
+true-alone tree game p left found missed found_alone missed_alone found_is missed_is g n = record {
+  found_true = λ tail there. g tail (sym (found_is tail) ∙ there);
+  missed_true = λ tail there. n tail (sym (missed_is tail) ∙ there);
+  found_in = λ tail there. found_is tail ∙ there;
+  missed_in = λ tail there. missed_is tail ∙ there;
 }
 
 either : (a b c g want : Bool) → c ≡ (a || b) → (a ≡ true → g ≡ want) → (b ≡ true → g ≡ want) → c ≡ true → g ≡ want
@@ -82,27 +83,27 @@ in_either : (a b c : Bool) → c ≡ (a || b) → b ≡ true → c ≡ true
 in_either a b c is there = search rules
 
 -- what was known and what is new
-pub true-merged : (game : Game) (p : Position) (left : ℕ) (found missed found_before missed_before found_all missed_all : HandSet)
-    → ((hand : ℕ) → has found_all hand ≡ (has found_before hand || has found hand)) → ((hand : ℕ) → has missed_all hand ≡ (has missed_before hand || has missed hand))
-    → ((hand : ℕ) → has found_before hand ≡ true → is_good game (filled p.well) p.rows left hand ≡ true)
-    → ((hand : ℕ) → has missed_before hand ≡ true → is_good game (filled p.well) p.rows left hand ≡ false)
-    → ((hand : ℕ) → has found hand ≡ true → is_good game (filled p.well) p.rows left hand ≡ true)
-    → ((hand : ℕ) → has missed hand ≡ true → is_good game (filled p.well) p.rows left hand ≡ false)
-    → AreTrueOf game p left found missed (found_all, missed_all)
-true-merged game p left found missed found_before missed_before found_all missed_all found_is missed_is f m g n = record {
-  found_true = λ hand. either (has found_before hand) (has found hand) (has found_all hand) (is_good game (filled p.well) p.rows left hand) true (found_is hand) (f hand) (g hand);
-  missed_true = λ hand. either (has missed_before hand) (has missed hand) (has missed_all hand) (is_good game (filled p.well) p.rows left hand) false (missed_is hand) (m hand) (n hand);
-  found_in = λ hand. in_either (has found_before hand) (has found hand) (has found_all hand) (found_is hand);
-  missed_in = λ hand. in_either (has missed_before hand) (has missed hand) (has missed_all hand) (missed_is hand);
+pub true-merged : (tree : TailTree) (game : Game) (p : Position) (left : ℕ) (found missed found_before missed_before found_all missed_all : TailSet)
+    → ((tail : ℕ) → has found_all tail ≡ (has found_before tail || has found tail)) → ((tail : ℕ) → has missed_all tail ≡ (has missed_before tail || has missed tail))
+    → ((tail : ℕ) → has found_before tail ≡ true → is_good_tail tree game (filled p.well) p.rows left tail ≡ true)
+    → ((tail : ℕ) → has missed_before tail ≡ true → is_good_tail tree game (filled p.well) p.rows left tail ≡ false)
+    → ((tail : ℕ) → has found tail ≡ true → is_good_tail tree game (filled p.well) p.rows left tail ≡ true)
+    → ((tail : ℕ) → has missed tail ≡ true → is_good_tail tree game (filled p.well) p.rows left tail ≡ false)
+    → AreTrueOf tree game p left found missed (found_all, missed_all)
+true-merged tree game p left found missed found_before missed_before found_all missed_all found_is missed_is f m g n = record {
+  found_true = λ tail. either (has found_before tail) (has found tail) (has found_all tail) (is_good_tail tree game (filled p.well) p.rows left tail) true (found_is tail) (f tail) (g tail);
+  missed_true = λ tail. either (has missed_before tail) (has missed tail) (has missed_all tail) (is_good_tail tree game (filled p.well) p.rows left tail) false (missed_is tail) (m tail) (n tail);
+  found_in = λ tail. in_either (has found_before tail) (has found tail) (has found_all tail) (found_is tail);
+  missed_in = λ tail. in_either (has missed_before tail) (has missed tail) (has missed_all tail) (missed_is tail);
 }
 
 -- a slot of such sets is true
-pub new-slot : (game : Game) (slot : Slot) (p : Position) (left : ℕ) (found missed : HandSet) (both : HandSet × HandSet)
+pub new-slot : (tree : TailTree) (game : Game) (slot : Slot) (p : Position) (left : ℕ) (found missed : TailSet) (both : TailSet × TailSet)
     → cells_in_bits slot.cells ≡ filled p.well → slot.rows ≡ p.rows → slot.left ≡ left → slot.found ≡ both.0 → slot.missed ≡ both.1
-    → AreTrueOf game p left found missed both → IsTrueSlot game slot
-new-slot game slot p left found missed both cells rows same found_is missed_is are = record {
-  found_true = λ hand there. (λ i. is_good game (cells i) (rows i) (same i) hand) ∙ are.found_true hand (ap (λ (s : HandSet). has s hand) (sym found_is) ∙ there);
-  missed_true = λ hand there. (λ i. is_good game (cells i) (rows i) (same i) hand) ∙ are.missed_true hand (ap (λ (s : HandSet). has s hand) (sym missed_is) ∙ there);
+    → AreTrueOf tree game p left found missed both → IsTrueSlot tree game slot
+new-slot tree game slot p left found missed both cells rows same found_is missed_is are = record {
+  found_true = λ tail there. (λ i. is_good_tail tree game (cells i) (rows i) (same i) tail) ∙ are.found_true tail (ap (λ (s : TailSet). has s tail) (sym found_is) ∙ there);
+  missed_true = λ tail there. (λ i. is_good_tail tree game (cells i) (rows i) (same i) tail) ∙ are.missed_true tail (ap (λ (s : TailSet). has s tail) (sym missed_is) ∙ there);
 }
 
 -- ---- the table of slots
@@ -111,12 +112,12 @@ new-slot game slot p left found missed both cells rows same found_is missed_is a
 abbrev pub IsBlank : Slot → Type 0
 IsBlank slot = blocks_of slot ≡ 0
 
-pub blank-true : (game : Game) (slots : List Slot) → All IsBlank slots → All (IsTrueSlot game) slots
-blank-true game slots blank = facts-none IsBlank (IsTrueSlot game) slots (empty-slot game) blank
+pub blank-true : (tree : TailTree) (game : Game) (slots : List Slot) → All IsBlank slots → All (IsTrueSlot tree game) slots
+blank-true tree game slots blank = facts-none IsBlank (IsTrueSlot tree game) slots (empty-slot tree game) blank
 
 -- a slot that is read is true
-pub slot-true : (game : Game) (slots : List Slot) (hash : ℕ) (slot : Slot) → All (IsTrueSlot game) slots → Some slot ≡ slice_get slots (slot_in (length slots) hash) → IsTrueSlot game slot
-slot-true game slots hash slot all is = subst (λ o. IfSome o (IsTrueSlot game)) (sym is) (facts-entry (IsTrueSlot game) slots hash all)
+pub slot-true : (tree : TailTree) (game : Game) (slots : List Slot) (hash : ℕ) (slot : Slot) → All (IsTrueSlot tree game) slots → Some slot ≡ slice_get slots (slot_in (length slots) hash) → IsTrueSlot tree game slot
+slot-true tree game slots hash slot all is = subst (λ o. IfSome o (IsTrueSlot tree game)) (sym is) (facts-entry (IsTrueSlot tree game) slots hash all)
 
 -- ---- how many answers there are
 

@@ -2,10 +2,12 @@
 pub mod CallerLemmas
 mod GoodLemmas
 mod KeptLemmas
+mod ListedTails
 mod SentLemmas
 mod MarkLemmas
 mod PlaceLemmas
 mod GoodSteps
+mod StartLemmas
 mod AnswerLemmas
 mod TiledLemmas
 mod FittingLemmas

@@ -1,13 +1,10 @@
 -- A placement after which a rest is good stands in a listed tiling by the pieces of the rest and its own.
-use Rattle.std.proofs.Common.{ℕ, suc, cond, ◌≡◌, ◌↔◌, ◌∙◌, ◌+◌, ◌-◌, ◌*◌, ◌^◌, ◌%◌, ◌<◌, ◌≤◌, ◌⊎◌, Bool, true, false, not, ◌&&◌, ◌||◌, ◌==◌, bit_and, bit_or, List, [], ◌∷◌, ◌++◌, length, get_or, map, ap, refl, sym, subst, inl, inr, arith, rules}
+use Rattle.std.proofs.Common.{ℕ, suc, cond, ◌≡◌, ◌↔◌, ◌∙◌, ◌+◌, ◌-◌, ◌*◌, ◌^◌, ◌%◌, ◌<◌, ◌≤◌, ◌⊎◌, Bool, true, false, not, ◌&&◌, ◌||◌, ◌==◌, bit_and, bit_or, List, [], ◌∷◌, length, get_or, map, ap, refl, sym, subst, inl, inr, arith, rules}
 use Rattle.std.proofs.Math.Bool.{and-true, or-true, true-or}
 use Rattle.std.proofs.lemmas.Bool.{agree_below_at, cases_lt, both_ways, eq-eqb, eqb-true, false_from_ne_true, not-false, or_parts}
 use Rattle.std.specs.Prelude.{All, Contains, Option, Some, None, IfSome, IsSomeAnd, slice_get}
 use Rattle.std.proofs.lemmas.Option.{slice_get_within, get_or_from_slice_get}
 use Rattle.std.proofs.lemmas.List.Elements.{All-head, All-tail}
-use Rattle.std.proofs.lemmas.List.{get_or_append_left, get_or_push, length-append}
-use Rattle.hands.specs.declared.hand_set.HandSet.{HandSet}
-use Rattle.hands.specs.HandSets.{has}
 use Rattle.hands.specs.Numbers.{has_number}
 use Rattle.problem.proofs.CallerLemmas.{locked-low}
 use Rattle.srs.proofs.CallerLemmas.{some_same, piece_code-small}
@@ -276,26 +273,6 @@ pub record AreIndexesBefore (known : List Mark) (piece : Piece) (left : ℕ) (re
 pub indexes-start : (known : List Mark) (piece : Piece) (left : ℕ) (rests : List ℕ) (indexes : List (Option ℕ)) → indexes ≡ [] → AreIndexesBefore known piece left rests indexes 0
 indexes-start known piece left rests indexes nil = record { size = ap length nil; each = λ k low. absurd (omega arith) }
 
-pub indexes-more : (known : List Mark) (piece : Piece) (left : ℕ) (rests : List ℕ) (indexes : List (Option ℕ)) (i : ℕ) (index : Option ℕ) → AreIndexesBefore known piece left rests indexes i
-    → IfSome index (IsMarkOf known piece left (get_or rests i 0))
-    → AreIndexesBefore known piece left rests (indexes ++ index ∷ []) (i + 1)
-indexes-more known piece left rests indexes i index state here = record {
-  size = let long = length-append indexes (index ∷ []) in let size = state.size in omega (arith, long, size);
-  each = λ k low. elim (cases_lt k i) [
-    | inl before ↦
-        let old = get_or_append_left indexes (index ∷ []) None k (let size = state.size in omega (arith, size)) in
-        subst (λ (o : Option ℕ). IfSome o (IsMarkOf known piece left (get_or rests k 0))) (sym old) (state.each k before)
-    | inr past ↦
-        let last : k ≡ i = omega arith in
-        let new = get_or_push indexes index None k (state.size ∙ sym last) in
-        subst (λ (o : Option ℕ). IfSome o (IsMarkOf known piece left (get_or rests k 0))) (sym new)
-        (subst (λ j. IfSome index (IsMarkOf known piece left (get_or rests j 0))) (sym last) here)
-  ];
-}
-
-pub indexes-end : (known : List Mark) (piece : Piece) (left : ℕ) (items rests : List ℕ) (indexes : List (Option ℕ)) (i : ℕ) → items ≡ rests → AreIndexesBefore known piece left items indexes i → i ≡ length items → AreIndexes known piece left rests indexes
-indexes-end known piece left items rests indexes i same state all = search rules
-
 -- a mark of the counts of a rest and a piece more
 pub mark-with : (known : List Mark) (piece : Piece) (left rest : ℕ) (counts : List ℕ) (index : Option ℕ) → IfSome index (λ p. HasMarkAt known p counts)
     → AreCountsWith piece left rest counts → IfSome index (IsMarkOf known piece left rest)
@@ -339,13 +316,13 @@ set-more indexes wanted i index state here low = record { each = each }
     ]
 
 -- where the bits of all indexes are set, the mark of each rest is wanted
-pub all-wanted : (known : List Mark) (piece : Piece) (left : ℕ) (rests : HandSet) (numbers : List ℕ) (indexes items : List (Option ℕ)) (wanted i : ℕ) → ((rest : ℕ) → has_number numbers rest ≡ has rests rest) → AreIndexes known piece left numbers indexes → items ≡ indexes
-    → AreSet items wanted i → length items ≤ i → (rest : ℕ) → has rests rest ≡ true → IsWanted known piece left rest wanted
-all-wanted known piece left rests numbers indexes items wanted i listed are same set all rest here =
-    let at = number-at numbers rest (listed rest ∙ here) in
+pub all-wanted : (known : List Mark) (piece : Piece) (left : ℕ) (rests : List ℕ) (indexes items : List (Option ℕ)) (wanted i : ℕ) → AreIndexes known piece left rests indexes → items ≡ indexes
+    → AreSet items wanted i → length items ≤ i → (rest : ℕ) → has_number rests rest ≡ true → IsWanted known piece left rest wanted
+all-wanted known piece left rests indexes items wanted i are same set all rest here =
+    let at = number-at rests rest here in
     let bit : IsSet wanted (get_or indexes at.0 None) = subst (λ l. IsSet wanted (get_or l at.0 None)) same
     (set.each at.0 (let size = are.size in let long = ap length same in omega (arith, at.1, size, long, all))) in
-    let mark = mark-there (IsMarkOf known piece left (get_or numbers at.0 0)) (λ index. (index < 64) × (has_bit wanted index ≡ true)) (get_or indexes at.0 None) (are.each at.0 at.1) bit in
+    let mark = mark-there (IsMarkOf known piece left (get_or rests at.0 0)) (λ index. (index < 64) × (has_bit wanted index ≡ true)) (get_or indexes at.0 None) (are.each at.0 at.1) bit in
     subst (λ r. IsWanted known piece left r wanted) at.2 (record { index = mark.0; mark = mark.1; set = mark.2.1 })
 
 -- a placement that stands in none of the marks that are wanted leaves no rest good

@@ -29,8 +29,6 @@ use Rattle.place_sets.specs.declared.low_held.LowPlaces.{LowPlaces}
 use Rattle.place_sets.specs.LowPlaces.{holds}
 use Rattle.well.proofs.CallerLemmas.{free_inside}
 use Rattle.moves.proofs.CallerLemmas.{is_place-decides as place-decides, place-free}
-use Rattle.hands.specs.declared.hand_set.HandSet.{HandSet}
-use Rattle.hands.specs.HandSets.{has}
 use Rattle.percent.specs.declared.game.Game.{Game}
 use Rattle.percent.specs.declared.position.Child.{Child}
 use Rattle.percent.specs.GoodHands.{reached_places, is_good, is_good_after}
@@ -103,13 +101,13 @@ abbrev pub is_good_with : Game → Field → ℕ → ℕ → ℕ → Placement �
 is_good_with game F rows left hand q = is_good game (locked F q) (rows - rows_removed F q) left hand
 
 -- the positions so far and the places that are still held make up all at which some of the hands are good
-pub record Entering (game : Game) (F : Field) (rows : ℕ) (piece : Piece) (left : ℕ) (hands : HandSet) (children : List Child) (places : LowPlaces) : Type 0 where
+pub record Entering (game : Game) (F : Field) (rows : ℕ) (piece : Piece) (left : ℕ) (hands : ℕ → Bool) (children : List Child) (places : LowPlaces) : Type 0 where
   pub held : (q : Placement) → holds places q ≡ true → IsLowPlace game F rows piece q
   pub only : (hand : ℕ) → is_good_at game children left hand ≡ true → is_good_after game F rows piece left hand ≡ true
   pub each : (q : Placement) → IsLowPlace game F rows piece q
-      → (holds places q ≡ true) ⊎ ((hand : ℕ) → has hands hand ≡ true → is_good_with game F rows left hand q ≡ true → is_good_at game children left hand ≡ true)
+      → (holds places q ≡ true) ⊎ ((hand : ℕ) → hands hand ≡ true → is_good_with game F rows left hand q ≡ true → is_good_at game children left hand ≡ true)
 
-pub enter-starts : (game : Game) (T : Table) (F : Field) (rows : ℕ) (piece : Piece) (left : ℕ) (hands : HandSet) (children : List Child) (places : LowPlaces) → T ≡ table_of game.rules → children ≡ []
+pub enter-starts : (game : Game) (T : Table) (F : Field) (rows : ℕ) (piece : Piece) (left : ℕ) (hands : ℕ → Bool) (children : List Child) (places : LowPlaces) → T ≡ table_of game.rules → children ≡ []
     → ((q : Placement) → (IsTrue (holds places q)) ↔ ((q.piece ≡ piece) × IsPlace T F game.drop_mode q × IsTrue (is_below rows q)))
     → Entering game F rows piece left hands children places
 unfolding is_good_at
@@ -120,7 +118,7 @@ enter-starts game T F rows piece left hands children places rules nil held = rec
 }
 
 -- one is taken out of the places
-module _ (game : Game) (F : Field) (rows : ℕ) (piece : Piece) (left : ℕ) (hands : HandSet) (children : List Child) (old new : LowPlaces) (q : Placement)
+module _ (game : Game) (F : Field) (rows : ℕ) (piece : Piece) (left : ℕ) (hands : ℕ → Bool) (children : List Child) (old new : LowPlaces) (q : Placement)
     (state : Entering game F rows piece left hands children old) (least : IsNextAbove placement_cmp (λ p. IsTrue (holds old p)) None (Some q))
     (rest : (p : Placement) → IsTrue (holds new p) ↔ (IsTrue (holds old p) × (Some q ≢ Some p))) where
   pub taken : IsLowPlace game F rows piece q
@@ -132,7 +130,7 @@ module _ (game : Game) (F : Field) (rows : ℕ) (piece : Piece) (left : ℕ) (ha
       fewer (holds old) (holds new) (λ p is. ((rest p).0 is).0) q least.member (false_from_ne_true _ (λ e. ((rest q).0 e).1 refl)) (placements_of piece) (listed game F rows piece q taken)
 
   -- and left out
-  pub enter-skip : ((hand : ℕ) → has hands hand ≡ true → is_good_with game F rows left hand q ≡ false) → Entering game F rows piece left hands children new
+  pub enter-skip : ((hand : ℕ) → hands hand ≡ true → is_good_with game F rows left hand q ≡ false) → Entering game F rows piece left hands children new
   enter-skip bad = record {
     held = λ p is. state.held p ((rest p).0 is).0;
     only = state.only;
@@ -178,9 +176,9 @@ module _ (game : Game) (F : Field) (rows : ℕ) (piece : Piece) (left : ℕ) (ha
       one true h = refl
       one false h = h
 
-pub enter-ends : (game : Game) (F : Field) (rows : ℕ) (piece : Piece) (left : ℕ) (hands : HandSet) (children : List Child) (places : LowPlaces) → Entering game F rows piece left hands children places
+pub enter-ends : (game : Game) (F : Field) (rows : ℕ) (piece : Piece) (left : ℕ) (hands : ℕ → Bool) (children : List Child) (places : LowPlaces) → Entering game F rows piece left hands children places
     → IsNextAbove placement_cmp (λ p. IsTrue (holds places p)) None None
-    → (hand : ℕ) → has hands hand ≡ true → is_good_at game children left hand ≡ is_good_after game F rows piece left hand
+    → (hand : ℕ) → hands hand ≡ true → is_good_at game children left hand ≡ is_good_after game F rows piece left hand
 unfolding is_good_after places_in
 enter-ends game F rows piece left hands children places state none hand here = same_from_both _ _ (state.only hand) (λ good. all (some_passes (λ q. is_below rows q && is_good_with game F rows left hand q) (reached_places game F piece) good))
   where

@@ -20,7 +20,7 @@ pub record IsChild (game : Game) (p : Position) (piece : Piece) (child : Child) 
   pub field : filled child.position.well ≡ locked (filled p.well) child.placement
   pub left : child.position.rows ≡ p.rows - rows_removed (filled p.well) child.placement
 
--- good at one of these positions
+-- a hand that is good at one of these positions
 unfoldable pub is_good_at : Game → List Child → ℕ → ℕ → Bool
 is_good_at game children left hand =
     list_any (λ child. is_good game (filled child.position.well) child.position.rows left hand) children

@@ -1,34 +1,36 @@
 -- Answers that are kept are true.
 use Rattle.std.specs.Prelude.{◌≡◌, ℕ, ◌+◌, ◌&&◌, not, true, false, Contains, List, sum_by}
 use Rattle.lane_board.specs.Field.{Field}
-use Rattle.hands.specs.declared.hand_set.HandSet.{HandSet}
-use Rattle.hands.specs.HandSets.{block_count, has}
+use Rattle.tails.specs.declared.tail_set.TailSet.{TailSet}
+use Rattle.tails.specs.declared.tree.TailTree.{TailTree}
+use Rattle.tails.specs.TailSets.{block_count, has}
 use Rattle.well.specs.CellBits.{cells_in_bits}
 use Rattle.percent.specs.declared.game.Game.{Game}
 use Rattle.percent.specs.declared.kept.Slot.{Slot}
-use Rattle.percent.specs.GoodHands.{is_good}
+use Rattle.percent.specs.GoodTails.{is_good_tail}
 
--- the found hands are good at the slot's position, and the missed ones are not
-pub record IsTrueSlot (game : Game) (slot : Slot) : Type 0 where
-  pub found_true : (hand : ℕ) → has slot.found hand ≡ true
-      → is_good game (cells_in_bits slot.cells) slot.rows slot.left hand ≡ true
-  pub missed_true : (hand : ℕ) → has slot.missed hand ≡ true
-      → is_good game (cells_in_bits slot.cells) slot.rows slot.left hand ≡ false
+-- the found tails are good at the slot's position, and the missed ones are not
+pub record IsTrueSlot (tree : TailTree) (game : Game) (slot : Slot) : Type 0 where
+  pub found_true : (tail : ℕ) → has slot.found tail ≡ true
+      → is_good_tail tree game (cells_in_bits slot.cells) slot.rows slot.left tail ≡ true
+  pub missed_true : (tail : ℕ) → has slot.missed tail ≡ true
+      → is_good_tail tree game (cells_in_bits slot.cells) slot.rows slot.left tail ≡ false
 
--- an entry says of hands at a position that they are good, and of others that they are not
-pub record Keeps (slots : List Slot) (F : Field) (rows left : ℕ) (found missed : HandSet) : Type 0 where
+-- an entry says of tails at a position that they are good, and of others that they are not
+pub record Keeps (slots : List Slot) (F : Field) (rows left : ℕ) (found missed : TailSet) : Type 0 where
   pub slot : Slot
   pub among : Contains slots slot
   pub field : cells_in_bits slot.cells ≡ F
   pub height : slot.rows ≡ rows
   pub to_come : slot.left ≡ left
-  pub good : (hand : ℕ) → has found hand ≡ true → has slot.found hand ≡ true
-  pub bad : (hand : ℕ) → has missed hand ≡ true → has slot.missed hand ≡ true
+  pub good : (tail : ℕ) → has found tail ≡ true → has slot.found tail ≡ true
+  pub bad : (tail : ℕ) → has missed tail ≡ true → has slot.missed tail ≡ true
 
--- of some hands those that are good with so many rows left and so many placements to come, and those that are not
-pub record AreAnswered (game : Game) (F : Field) (rows left : ℕ) (hands good bad : HandSet) : Type 0 where
-  pub goods : (hand : ℕ) → has good hand ≡ (has hands hand && is_good game F rows left hand)
-  pub bads : (hand : ℕ) → has bad hand ≡ (has hands hand && not (is_good game F rows left hand))
+-- of some tails those that are good with so many rows left and so many placements to come, and those that are not
+pub record AreAnswered (tree : TailTree) (game : Game) (F : Field) (rows left : ℕ)
+    (tails good bad : TailSet) : Type 0 where
+  pub goods : (tail : ℕ) → has good tail ≡ (has tails tail && is_good_tail tree game F rows left tail)
+  pub bads : (tail : ℕ) → has bad tail ≡ (has tails tail && not (is_good_tail tree game F rows left tail))
 
 -- how many blocks of answers a slot has, and how many there are in all
 unfoldable pub blocks_of : Slot → ℕ

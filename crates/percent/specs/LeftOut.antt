@@ -1,7 +1,7 @@
--- Hands that are left out because they fail a test.
+-- Tails that are left out because they fail a test.
 use Rattle.std.specs.Prelude.{◌≡◌, ℕ, Bool, true, ◌&&◌}
 
--- some of these hands are there, all that pass a test among them
-pub record LeavesOutBad (test hands fit : ℕ → Bool) : Type 0 where
-  pub fewer : (hand : ℕ) → fit hand ≡ true → hands hand ≡ true
-  pub same : (hand : ℕ) → (fit hand && test hand) ≡ (hands hand && test hand)
+-- some of these tails are there, all that pass a test among them
+pub record LeavesOutBad (test tails fit : ℕ → Bool) : Type 0 where
+  pub fewer : (tail : ℕ) → fit tail ≡ true → tails tail ≡ true
+  pub same : (tail : ℕ) → (fit tail && test tail) ≡ (tails tail && test tail)

@@ -6,6 +6,7 @@ pub mod BuiltHands
 -- What contracts cite beside these: views of values, and readings and tests, each with its law
 pub mod Answers
 pub mod GoodHands
+pub mod GoodTails
 -- What the invariants of types cite: what their private fields hold and stand for
 pub mod Counts
 pub mod Kept

@@ -4,8 +4,10 @@ use Rattle.lane_board.specs.Field.{Field}
 use Rattle.srs.specs.declared.piece.Piece.{Piece}
 use Rattle.srs.specs.Piece.{piece_code}
 use Rattle.hold_queue.specs.declared.hold.Hold.{Hold}
-use Rattle.hands.specs.HandSets.{has}
 use Rattle.hands.specs.Hands.{takes}
+use Rattle.hands.specs.Numbers.{has_number}
+use Rattle.tails.specs.declared.tree.TailTree.{TailTree}
+use Rattle.tails.specs.Tails.{AreHandsAt, AreTails, hand_at}
 use Rattle.empty_cells.specs.Empties.{empty_cells}
 use Rattle.tiled_pieces.specs.TilingLists.{HasParts}
 use Rattle.percent.specs.declared.marks.Asked.{Asked}
@@ -28,6 +30,11 @@ AllListHand marks left hand =
 pub record AreMarksOf (marks : Marks) (left : ℕ) (hands : ℕ → Bool) : Type 0 where
   pub each : (hand : ℕ) → hands hand ≡ true → AllListHand marks left hand
 
+-- and for the hand of each of these tails
+pub record AreMarksOfTails (tree : TailTree) (marks : Marks) (left : ℕ) (tails : ℕ → Bool) : Type 0 where
+  pub are_tails : AreTails tree tails
+  pub each : (tail : ℕ) → tails tail ≡ true → AllListHand marks left (hand_at tree tail)
+
 -- a rest is what is left of such a hand when a piece is taken
 pub record IsRestAt (marks : Marks) (piece : Piece) (left rest : ℕ) : Type 0 where
   pub hand : ℕ
@@ -38,6 +45,11 @@ pub record IsRestAt (marks : Marks) (piece : Piece) (left rest : ℕ) : Type 0 w
 pub record AreRestsAt (marks : Marks) (piece : Piece) (left : ℕ) (rests : ℕ → Bool) : Type 0 where
   pub each : (rest : ℕ) → rests rest ≡ true → IsRestAt marks piece left rest
 
+-- so is the hand of each of these tails
+pub record AreRestsOfTails (tree : TailTree) (marks : Marks) (piece : Piece) (left : ℕ) (rests : ℕ → Bool) : Type 0 where
+  pub are_tails : AreTails tree rests
+  pub each : (rest : ℕ) → rests rest ≡ true → IsRestAt marks piece left (hand_at tree rest)
+
 -- what is asked about a piece, with so many placements to come
 pub record IsAbout (piece : Piece) (left : ℕ) (asked : Asked) : Type 0 where
   pub kind : asked.piece ≡ piece
@@ -46,9 +58,13 @@ pub record IsAbout (piece : Piece) (left : ℕ) (asked : Asked) : Type 0 where
 -- for each rest asked about the index of the mark of its pieces and this one, if there is one
 abbrev pub HasIndexes : Marks → Asked → Type 0
 HasIndexes marks asked =
-    AreIndexes marks.known.items asked.piece asked.left asked.numbers.items asked.indexes.items
+    AreIndexes marks.known.items asked.piece asked.left asked.hands.items asked.indexes.items
 
--- so it is, and the rests are what is left of hands whose tilings the marks list
+-- what is asked about has the hands of the rests
+abbrev pub HasHands : TailTree → Asked → Type 0
+HasHands tree asked = AreHandsAt tree asked.tails.items asked.hands.items
+
+-- there are these indexes, and the rests are what is left of hands whose tilings the marks list
 pub record IsAskedAt (marks : Marks) (asked : Asked) : Type 0 where
   pub indexes : HasIndexes marks asked
-  pub rests : AreRestsAt marks asked.piece asked.left (has asked.rests)
+  pub rests : AreRestsAt marks asked.piece asked.left (has_number asked.hands.items)

@@ -1,39 +1,46 @@
--- The hands of a problem's queues by their numbers, and the answers for the queues.
-use Rattle.std.specs.Prelude.{◌≡◌, ℕ, ◌<◌, ◌≤◌, Bool, true, false, List, [], length, slice_index_or}
-use Rattle.hands.specs.declared.hand_set.HandSet.{HandSet}
-use Rattle.hands.specs.declared.queue_hands.QueueHands.{QueueHands}
-use Rattle.hands.specs.HandSets.{has}
-use Rattle.hands.specs.QueueHands.{queue_hand}
+-- The tree of a problem's queues, and the answers for the queues.
+use Rattle.std.specs.Prelude.{◌≡◌, ℕ, ◌-◌, ◌*◌, ◌/◌, ◌<◌, Bool, true, false, List, [], length, slice_index_or}
+use Rattle.queue_pattern.specs.declared.element.Element.{Element}
+use Rattle.queue_pattern.specs.Cut.{cut}
 use Rattle.queue_pattern.specs.Pattern.{elements_of}
 use Rattle.queue_pattern.specs.Queues.{queues}
+use Rattle.hold_queue.specs.AtHand.{count_held, playable, taken_from}
 use Rattle.problem.specs.declared.problem.Problem.{Problem}
 use Rattle.problem.specs.Problem.{needed_of}
+use Rattle.tails.specs.declared.tree.TailTree.{TailTree}
+use Rattle.tails.specs.declared.tail_set.TailSet.{TailSet}
+use Rattle.tails.specs.TailSets.{has}
+use Rattle.tails.specs.Tails.{start_tail}
 use Rattle.percent.specs.GoodHands.{is_good_queue}
 
--- the hand of the queue with this number
-unfoldable pub numbered_hand : Problem → ℕ → ℕ
-numbered_hand problem number =
-    queue_hand problem.hold problem.held (needed_of problem) (elements_of problem.pattern) number
+-- how many pieces of a queue matter beside the piece that is held at first
+unfoldable pub pieces_drawn : Problem → ℕ
+pieces_drawn problem =
+    taken_from problem.hold (needed_of problem) - count_held (playable problem.hold problem.held)
 
--- these are the hands of a problem's queues
-pub record AreHandsOf (problem : Problem) (hands : QueueHands) : Type 0 where
-  pub pattern : hands.pattern ≡ problem.pattern
-  pub hold : hands.hold ≡ problem.hold
-  pub held : hands.held ≡ problem.held
-  pub placements : hands.placements ≡ needed_of problem
+-- the tree of a pattern with these elements, cut to the pieces that matter
+pub record IsTreeOf (problem : Problem) (elements : List Element) (tree : TailTree) : Type 0 where
+  pub pattern : elements_of tree.pattern ≡ cut (pieces_drawn problem) elements
+  pub hold : tree.hold ≡ problem.hold
 
--- a test passes for the hand of each queue from one number on, before another one
-pub record HasHandsBetween (problem : Problem) (has_hand : ℕ → Bool) (first end : ℕ) : Type 0 where
-  pub each : (k : ℕ) → first ≤ k → k < end → has_hand (numbered_hand problem k) ≡ true
+-- the tail of the queue with this number: that of the cut queue with which it begins, where so many queues begin alike
+unfoldable pub numbered_tail : Problem → TailTree → ℕ → ℕ → ℕ
+numbered_tail problem tree alike number = start_tail tree problem.held (number / alike)
 
--- a test passes for the hand of each queue before this number
-abbrev pub HasHandsBefore : Problem → (ℕ → Bool) → ℕ → Type 0
-HasHandsBefore problem has_hand number = HasHandsBetween problem has_hand 0 number
+-- so many queues have each cut queue as a front
+pub record BeginAlike (problem : Problem) (tree : TailTree) (alike : ℕ) : Type 0 where
+  pub some : 0 < alike
+  pub all : length (queues (elements_of problem.pattern)) ≡ alike * length (queues (elements_of tree.pattern))
 
--- the hands of good queues are those among these
-pub record HasGoodHands (problem : Problem) (hands : HandSet) : Type 0 where
+-- a test passes for the tail of each queue
+pub record HasEachTail (problem : Problem) (tree : TailTree) (alike : ℕ) (tails : ℕ → Bool) : Type 0 where
   pub each : (number : ℕ) → number < length (queues (elements_of problem.pattern))
-      → has hands (numbered_hand problem number)
+      → tails (numbered_tail problem tree alike number) ≡ true
+
+-- a queue is good exactly if its tail is among these
+pub record HasGoodTails (problem : Problem) (tree : TailTree) (alike : ℕ) (good : TailSet) : Type 0 where
+  pub each : (number : ℕ) → number < length (queues (elements_of problem.pattern))
+      → has good (numbered_tail problem tree alike number)
       ≡ is_good_queue problem (slice_index_or (queues (elements_of problem.pattern)) number [])
 
 -- whether each of the first so many queues is good

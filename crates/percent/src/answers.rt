@@ -1,77 +1,39 @@
 // The answers for all queues of a pattern.
-ghost use Rattle.std.specs.Prelude.{◌≡◌, ◌≤◌, IfOk, count_by, length};
+ghost use Rattle.std.specs.Prelude.{◌≡◌, ◌≤◌, ℕ, IfOk, count_by, length};
 ghost use Rattle.queue_pattern.specs.Pattern.{elements_of};
 ghost use Rattle.queue_pattern.specs.Queues.{queues};
-ghost use Rattle.hands.specs.HandSets.{has};
+ghost use Rattle.tails.specs.TailSets.{has};
 ghost use Rattle.problem.specs.Problem.{IsFit};
 ghost use Rattle.percent.specs.GoodHands.{is_good_queue};
-ghost use Rattle.percent.specs.QueueAnswers.{AreAnswers, AreHandsOf, HasGoodHands, HasHandsBefore, HasHandsBetween};
+ghost use Rattle.percent.specs.QueueAnswers.{AreAnswers, BeginAlike, HasEachTail, HasGoodTails, IsTreeOf};
 
-use crate::start::good_hands;
-use hands::{HandSet, QueueHands, Starts};
+use crate::start::{good_tails, tree_of};
 use pc_outside::NoMemory;
-use problem::{Problem, needed};
+use problem::Problem;
 use reach::Steps;
 use std::alloc::Global;
 use std::sync::ledger::Ledger;
+use tails::{TailSet, TailTree};
 
-/// How many hands are gathered before a set has them.
-const GATHERED: u32 = 65_536;
-
-/// The hands of a problem's queues.
-fn queue_hands(alloc: Global, problem: &Problem) -> Result<QueueHands, NoMemory>
-    requires { IsFit problem.now }
-    ensures { IfOk result (AreHandsOf problem.now) }
+/// How many queues have each queue of a cut pattern as a front.
+fn alike(problem: &Problem, tree: &TailTree) -> u32
+    requires { IsTreeOf problem.now (elements_of problem.now.pattern) tree.now }
+    ensures { BeginAlike problem.now tree.now result }
 {
-    let placements = needed(problem);
-    QueueHands::new(
-        alloc,
-        &problem.pattern,
-        problem.hold,
-        problem.held,
-        placements,
-    )
+    problem.pattern.count() / tree.pattern.count()
 }
 
-/// The hands of the queues from one number on, before another one.
-fn hands_between(
+/// An answer for each queue, that it is good, where the tail of each is among the good ones. The tree and the tails are
+/// there for the contract alone.
+fn all_good(
     alloc: Global,
-    queue_hands: &QueueHands,
-    first: u32,
-    end: u32,
-) -> Result<HandSet, NoMemory>
-    requires { end ≤ length (queues (elements_of queue_hands.now.pattern)) }
-    ensures { IfOk result (λ hands. (problem : Problem) → AreHandsOf problem queue_hands.now
-        → HasHandsBetween problem (has hands) first end) }
-{
-    let mut numbers = Vec::with_capacity(alloc, end.saturating_sub(first) as usize)?;
-    for number in first..end {
-        numbers.push(queue_hands.hand(number))?;
-    }
-    HandSet::of(alloc, numbers.as_slice())
-}
-
-/// The hands of all queues, each once.
-fn hands_of(alloc: Global, queue_hands: &QueueHands) -> Result<HandSet, NoMemory>
-    ensures { IfOk result (λ hands. (problem : Problem) → AreHandsOf problem queue_hands.now
-        → HasHandsBefore problem (has hands) (length (queues (elements_of problem.pattern)))) }
-{
-    let count = queue_hands.pattern.count();
-    let mut hands = HandSet::none(alloc);
-    let mut first = 0;
-    while first < count {
-        let end = count.min(first.saturating_add(GATHERED));
-        let more = hands_between(alloc, queue_hands, first, end)?;
-        hands = hands.merged(alloc, &more)?;
-        first = end;
-    }
-    Ok(hands)
-}
-
-/// That each queue is good, where the hand of each is among good ones.
-fn all_good(alloc: Global, problem: &Problem, hands: &HandSet) -> Result<Vec<bool>, NoMemory>
-    requires each { HasHandsBefore problem.now (has hands.now) (length (queues (elements_of problem.now.pattern))) }
-    requires exact { HasGoodHands problem.now hands.now }
+    problem: &Problem,
+    tree: &TailTree,
+    alike: u32,
+    tails: &TailSet,
+) -> Result<Vec<bool>, NoMemory>
+    requires each { HasEachTail problem.now tree.now alike (has tails.now) }
+    requires exact { HasGoodTails problem.now tree.now alike tails.now }
     ensures { IfOk result (λ v. AreAnswers problem.now v.items (length (queues (elements_of problem.now.pattern)))) }
 {
     let count = problem.pattern.count();
@@ -82,27 +44,33 @@ fn all_good(alloc: Global, problem: &Problem, hands: &HandSet) -> Result<Vec<boo
     Ok(answers)
 }
 
-/// For each queue, by its number, whether it is good: whether its hand is among the good ones. If all hands are, each is.
+/// For each queue, by its number, whether it is good: whether its tail is among the good ones. If all tails are, each
+/// is.
 fn judged(
     alloc: Global,
     problem: &Problem,
-    queue_hands: &QueueHands,
-    all: &HandSet,
-    good: &HandSet,
+    tree: &TailTree,
+    all: &TailSet,
+    good: &TailSet,
 ) -> Result<Vec<bool>, NoMemory>
-    requires own { AreHandsOf problem.now queue_hands.now }
-    requires each { HasHandsBefore problem.now (has all.now) (length (queues (elements_of problem.now.pattern))) }
-    requires exact { HasGoodHands problem.now good.now }
+    requires fit { IsFit problem.now }
+    requires own { IsTreeOf problem.now (elements_of problem.now.pattern) tree.now }
+    requires each { (alike : ℕ) → BeginAlike problem.now tree.now alike
+        → HasEachTail problem.now tree.now alike (has all.now) }
+    requires exact { (alike : ℕ) → BeginAlike problem.now tree.now alike
+        → HasGoodTails problem.now tree.now alike good.now }
     ensures { IfOk result (λ v. AreAnswers problem.now v.items (length (queues (elements_of problem.now.pattern)))) }
 {
+    let alike = alike(problem, tree);
     if all.without(alloc, good)?.is_empty() {
-        return all_good(alloc, problem, good);
+        return all_good(alloc, problem, tree, alike, good);
     }
-    let starts = Starts::new(alloc, good)?;
     let count = problem.pattern.count();
     let mut answers = Vec::with_capacity(alloc, count as usize)?;
+    let mut next = 0;
     for number in 0..count {
-        answers.push(starts.has(good, queue_hands.hand(number)))?;
+        let tail = tree.start(problem.held, number / alike);
+        answers.push(good.has_near(&mut next, tail))?;
     }
     Ok(answers)
 }
@@ -148,10 +116,10 @@ impl Answers {
         ensures problem { IfOk result (λ answers. problem_of answers ≡ problem.now) }
         ensures counted { steps.old ≤ steps.new }
     {
-        let queue_hands = queue_hands(alloc, problem)?;
-        let hands = hands_of(alloc, &queue_hands)?;
-        let good = good_hands(alloc, problem, &hands, steps)?;
-        let good = judged(alloc, problem, &queue_hands, &hands, &good)?;
+        let tree = tree_of(alloc, problem, &problem.pattern)?;
+        let all = tree.all(alloc, problem.held)?;
+        let (tree, good) = good_tails(alloc, problem, tree, &all, steps)?;
+        let good = judged(alloc, problem, &tree, &all, &good)?;
         let count = count_good(problem, good.as_slice());
         Ok(Answers {
             problem: *problem,

@@ -9,7 +9,7 @@ ghost use Rattle.moves.specs.Place.{IsPlace};
 ghost use Rattle.prune.specs.Tiling.{Supply, Tiling};
 ghost use Rattle.empty_cells.specs.Empties.{all_but, empty_cells};
 ghost use Rattle.empty_cells.specs.SentCells.{sent_cells};
-ghost use Rattle.hands.specs.HandSets.{has};
+ghost use Rattle.hands.specs.Numbers.{has_number};
 ghost use Rattle.percent.specs.Children.{IsChild};
 ghost use Rattle.percent.specs.GoodHands.{is_good, is_good_after};
 ghost use Rattle.percent.specs.Children.{is_good_at};
@@ -43,7 +43,7 @@ impl Marks {
     /// The marks of the rests asked about: bit `k` stands for mark `k`. `None` if a rest has no mark.
     fn wanted(&self, asked: &Asked) -> Option<u64>
         requires { HasIndexes self.now asked.now }
-        ensures { IfSome result (λ wanted. (rest : ℕ) → has asked.now.rests rest ≡ true
+        ensures { IfSome result (λ wanted. (rest : ℕ) → has_number asked.now.hands.items rest ≡ true
             → IsWanted self.now.known.items asked.now.piece asked.now.left rest wanted) }
     {
         let mut wanted = 0u64;
@@ -129,12 +129,12 @@ impl Marks {
         requires place { IsPlace (table_of self.now.game.rules) (filled self.now.position.well)
             self.now.game.drop_mode placement.now }
         requires below { IsTrue (is_below self.now.position.rows placement.now) }
-        requires rests { AreRestsAt self.now placement.now.piece asked.now.left (has asked.now.rests) }
+        requires rests { AreRestsAt self.now placement.now.piece asked.now.left (has_number asked.now.hands.items) }
         requires taken { empty_cells taken.now ≡ sent_cells self.now.rows placement.now }
         requires standing { IsStanding self.now.known.items self.now.rows placement.now standing }
-        requires wanted { IfSome wanted (λ wanted. (rest : ℕ) → has asked.now.rests rest ≡ true
+        requires wanted { IfSome wanted (λ wanted. (rest : ℕ) → has_number asked.now.hands.items rest ≡ true
             → IsWanted self.now.known.items placement.now.piece asked.now.left rest wanted) }
-        ensures { result ≡ false → (rest : ℕ) → has asked.now.rests rest ≡ true
+        ensures { result ≡ false → (rest : ℕ) → has_number asked.now.hands.items rest ≡ true
             → is_good self.now.game (locked (filled self.now.position.well) placement.now)
             (self.now.position.rows - rows_removed (filled self.now.position.well) placement.now)
             asked.now.left rest ≡ false }
@@ -159,7 +159,7 @@ impl Marks {
         ensures after { IfOk result (λ v. All (IsChild self.now.game self.now.position asked.now.piece) v.items) }
         ensures standing { IfOk result (λ v. All (λ child. IsStanding self.now.known.items self.now.rows
             child.placement child.standing) v.items) }
-        ensures good { IfOk result (λ v. (rest : ℕ) → has asked.now.rests rest ≡ true
+        ensures good { IfOk result (λ v. (rest : ℕ) → has_number asked.now.hands.items rest ≡ true
             → is_good_at kept.now.game v.items asked.now.left rest
             ≡ is_good_after kept.now.game (filled self.now.position.well) self.now.position.rows asked.now.piece
             asked.now.left rest) }

@@ -1,24 +1,26 @@
-// Leaving out hands whose pieces can't fill the empty cells, before anything is played.
+// Leaving out tails whose pieces can't fill the empty cells, before anything is played.
 ghost use Rattle.std.specs.Prelude.{◌≡◌, ◌↔◌, ℕ, ◌≤◌, ◌<◌, IsTrue, true, false, IfOk, length, slice_index};
 ghost use Rattle.empty_cells.specs.Empties.{all_but, empty_cells};
 ghost use Rattle.well.specs.Well.{filled};
 ghost use Rattle.prune.specs.Tiling.{Tiling, supply_in};
-ghost use Rattle.hands.specs.HandSets.{has};
 ghost use Rattle.hands.specs.Numbers.{has_number};
+ghost use Rattle.tails.specs.declared.tree.TailTree.{TailTree};
+ghost use Rattle.tails.specs.TailSets.{has};
+ghost use Rattle.tails.specs.Tails.{AreHandsAt, AreTails};
 ghost use Rattle.percent.specs.declared.game.Game.{Game};
 ghost use Rattle.percent.specs.Counts.{supply_by};
 ghost use Rattle.percent.specs.Fitting.{codes_in};
-ghost use Rattle.percent.specs.GoodHands.{is_good};
+ghost use Rattle.percent.specs.GoodTails.{is_good_tail};
 ghost use Rattle.percent.specs.LeftOut.{LeavesOutBad};
 
 use crate::position::{Position, hash_of};
 use empty_cells::Empties;
 use fact_table::{Entry, FactTable};
-use hands::HandSet;
 use packing::TilingStore;
 use pc_outside::NoMemory;
 use prune::cheap_no;
 use std::alloc::Global;
+use tails::{TailSet, TailTree};
 
 /// How many pieces there are with each code. No piece has the code 0.
 pub type Counts = [u8; 8];
@@ -159,19 +161,23 @@ impl FitMemory {
     }
 }
 
-/// The hands whose pieces may fill the empty cells at a position. The others are not good there.
+/// Those of the tails with these hands whose pieces may fill the empty cells at a position. The others are not good
+/// there.
 pub fn fitting(
     alloc: Global,
     fits: &mut FitMemory,
     position: &Position,
     left: u8,
+    tails: &[u64],
     hands: &[u64],
-) -> Result<HandSet, NoMemory>
-    requires { left ≤ 20 }
-    ensures { IfOk result (λ fit. (game : Game) → LeavesOutBad (is_good game (filled position.now.well)
-        position.now.rows left) (has_number hands.now) (has fit)) }
+) -> Result<TailSet, NoMemory>
+    requires few { left ≤ 20 }
+    requires size { length hands.now ≡ length tails.now }
+    ensures { IfOk result (λ fit. (tree : TailTree) (game : Game) → AreHandsAt tree tails.now hands.now
+        → LeavesOutBad (is_good_tail tree game (filled position.now.well) position.now.rows left)
+        (has_number tails.now) (has fit)) }
 {
-    let mut fit = HandSet::none(alloc);
+    let mut fit = TailSet::none(alloc);
     if cheap_no(&position.well, position.rows, &[255; 7]) {
         return Ok(fit);
     }
@@ -182,36 +188,46 @@ pub fn fitting(
     if !fits.may_fit(&cells, hash, near, &greatest_counts(hands, pieces)) {
         return Ok(fit);
     }
-    for hand in hands {
-        if fits.may_fit(&cells, hash, near, &counts_of(*hand, pieces)) {
-            fit.insert(*hand)?;
+    for index in 0..tails.len() {
+        if fits.may_fit(&cells, hash, near, &counts_of(hands[index], pieces)) {
+            fit.insert(tails[index])?;
         }
     }
     Ok(fit)
 }
 
-/// How many blocks of hands are looked at together.
+/// How many blocks of tails are looked at together.
 const PART: usize = 16_384;
 
-/// The hands of a set whose pieces may fill the empty cells at a position. The others are not good there. They are looked
-/// for in parts of the set, so that no list of all hands is made.
+/// The tails of a set whose pieces may fill the empty cells at a position. The others are not good there. They are
+/// looked for in parts of the set, so that no list of all tails is made.
 pub fn fitting_in_parts(
     alloc: Global,
     fits: &mut FitMemory,
+    tree: &TailTree,
     position: &Position,
     left: u8,
-    hands: &HandSet,
-) -> Result<HandSet, NoMemory>
-    requires { left ≤ 20 }
-    ensures { IfOk result (λ fit. (game : Game) → LeavesOutBad (is_good game (filled position.now.well)
-        position.now.rows left) (has hands.now) (has fit)) }
+    tails: &TailSet,
+) -> Result<TailSet, NoMemory>
+    requires few { left ≤ 20 }
+    requires tails { AreTails tree.now (has tails.now) }
+    ensures { IfOk result (λ fit. (game : Game) → LeavesOutBad (is_good_tail tree.now game (filled position.now.well)
+        position.now.rows left) (has tails.now) (has fit)) }
 {
-    let mut fit = HandSet::none(alloc);
-    let mut rest = hands.copied(alloc)?;
+    let mut fit = TailSet::none(alloc);
+    let mut rest = tails.copied(alloc)?;
     while rest.block_count() > 0 {
         let (part, others) = rest.split_at(alloc, PART)?;
         let numbers = part.numbers(alloc)?;
-        let more = fitting(alloc, fits, position, left, numbers.as_slice())?;
+        let hands = tree.hands(alloc, numbers.as_slice())?;
+        let more = fitting(
+            alloc,
+            fits,
+            position,
+            left,
+            numbers.as_slice(),
+            hands.as_slice(),
+        )?;
         fit = fit.merged(alloc, &more)?;
         rest = others;
     }

@@ -1,4 +1,4 @@
-// What stays the same while hands are searched.
+// What stays the same in a search.
 ghost use Rattle.std.specs.Prelude.{◌≡◌, true};
 
 use hold_queue::Hold;

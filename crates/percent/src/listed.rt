@@ -1,6 +1,6 @@
 // The tilings at a position: listed there, or those at the position before it that have the piece placed since.
 ghost use Rattle.std.specs.Prelude.{◌≡◌, ◌≤◌, ℕ, Bool, IfSome};
-ghost use Rattle.hands.specs.HandSets.{has};
+ghost use Rattle.hands.specs.Numbers.{has_number};
 ghost use Rattle.percent.specs.Children.{IsChild};
 ghost use Rattle.percent.specs.ListedHands.{AreMarksOf, AreRestsAt};
 
@@ -10,21 +10,17 @@ use crate::marks::{Mark, Marks, index_of};
 use crate::position::{Child, Position};
 use crate::spread::rows_among;
 use empty_cells::Empties;
-use hands::HandSet;
 use hold_queue::Hold;
 use std::alloc::Global;
 use tiled_pieces::Lister;
 
 /// The counts of some hands, each once, or none if there are more than `most` of them or not enough memory for them.
-fn all_counts(alloc: Global, hands: &HandSet, pieces: u8, most: usize) -> Vec<Counts> {
+fn all_counts(alloc: Global, hands: &[u64], pieces: u8, most: usize) -> Vec<Counts> {
     let mut v = Vec::new(alloc);
     if most == 0 {
         return v;
     }
-    let Ok(numbers) = hands.numbers(alloc) else {
-        return v;
-    };
-    for hand in &numbers {
+    for hand in hands {
         let counts = counts_of(*hand, pieces);
         if v.as_slice().contains(&counts) {
             continue;
@@ -38,7 +34,7 @@ fn all_counts(alloc: Global, hands: &HandSet, pieces: u8, most: usize) -> Vec<Co
 
 /// For how many counts of pieces it pays to list the ordered tilings of a position, with `left` placements to come.
 /// High fields have too many, and there are many more where a piece of each hand stays over.
-fn most_counts(hold: Hold, rows: u8, left: u8) -> usize {
+pub fn most_counts(hold: Hold, rows: u8, left: u8) -> usize {
     let most_left = match hold {
         Hold::Avoided => 9,
         Hold::Allowed => 8,
@@ -57,7 +53,7 @@ pub fn marks_of(
     game: &Game,
     position: &Position,
     left: u8,
-    hands: &HandSet,
+    hands: &[u64],
 ) -> Marks
     requires { left ≤ 20 }
     ensures game { result.game ≡ game.now }
@@ -113,23 +109,19 @@ impl Marks {
 
     /// What is known of the tilings at the position after a placement, by the pieces of some hands. A mark for which
     /// there is not enough memory is left out.
-    pub fn after(&self, alloc: Global, child: &Child, left: u8, hands: &HandSet) -> Marks
+    pub fn after(&self, alloc: Global, child: &Child, left: u8, hands: &[u64]) -> Marks
         requires few { left ≤ 20 }
         requires child { IsChild self.now.game self.now.position child.now.placement.piece child.now }
-        requires rests { AreRestsAt self.now child.now.placement.piece left (has hands.now) }
+        requires rests { AreRestsAt self.now child.now.placement.piece left (has_number hands.now) }
         ensures game { result.game ≡ self.now.game }
         ensures position { result.position ≡ child.now.position }
-        ensures lists { AreMarksOf result left (has hands.now) }
+        ensures lists { AreMarksOf result left (has_number hands.now) }
     {
         let taken = self.taken(&child.placement);
         let cells = self.cells.without_cells(&taken);
         let mut known = Vec::new(alloc);
         let mut likely = None;
-        let numbers = match hands.numbers(alloc) {
-            Ok(numbers) => numbers,
-            Err(_) => Vec::new(alloc),
-        };
-        for hand in &numbers {
+        for hand in hands {
             let counts = counts_of(*hand, left + 1);
             likely = index_of(known.as_slice(), &counts, likely);
             if likely.is_some() {
@@ -148,28 +140,4 @@ impl Marks {
             known,
         }
     }
-}
-
-/// What is known of the tilings at the position after a placement, by the pieces of some hands. If nothing is known
-/// before it, they are listed.
-pub fn marks_after(
-    alloc: Global,
-    lister: &mut Lister,
-    marks: &Marks,
-    child: &Child,
-    left: u8,
-    hands: &HandSet,
-) -> Marks
-    requires some { 1 ≤ left }
-    requires few { left ≤ 20 }
-    requires child { IsChild marks.now.game marks.now.position child.now.placement.piece child.now }
-    requires rests { AreRestsAt marks.now child.now.placement.piece left (has hands.now) }
-    ensures game { result.game ≡ marks.now.game }
-    ensures position { result.position ≡ child.now.position }
-    ensures lists { AreMarksOf result left (has hands.now) }
-{
-    if marks.is_empty() {
-        return marks_of(alloc, lister, &marks.game, &child.position, left, hands);
-    }
-    marks.after(alloc, child, left, hands)
 }

@@ -9,12 +9,14 @@ ghost use Rattle.well.specs.LockLaws.{is_below};
 ghost use Rattle.empty_cells.specs.Empties.{empty_cells};
 ghost use Rattle.empty_cells.specs.SentCells.{sent_cells};
 ghost use Rattle.lane_board.specs.Lanes.{has_bit};
-ghost use Rattle.hands.specs.HandSets.{has};
 ghost use Rattle.hands.specs.Numbers.{has_number};
+ghost use Rattle.tails.specs.declared.tree.TailTree.{TailTree};
+ghost use Rattle.tails.specs.TailSets.{has};
+ghost use Rattle.tails.specs.Tails.{AreTails};
 ghost use Rattle.percent.specs.BuiltHands.{IsHardSrs};
 ghost use Rattle.percent.specs.Children.{IsChild};
 ghost use Rattle.percent.specs.Counts.{codes_with};
-ghost use Rattle.percent.specs.GoodHands.{is_good};
+ghost use Rattle.percent.specs.GoodTails.{is_good_tail};
 ghost use Rattle.percent.specs.LeftOut.{LeavesOutBad};
 ghost use Rattle.percent.specs.Marks.{HasMarkAt, IsMarkOf, IsStanding, IsTrueMark};
 ghost use Rattle.percent.specs.Spread.{IsSpread};
@@ -23,11 +25,11 @@ use crate::fitting::{Counts, FitMemory, are_same, counts_of, fitting, supply_fro
 use crate::game::Game;
 use crate::position::{Child, Position};
 use empty_cells::Empties;
-use hands::HandSet;
 use lane_board::words::has_bit;
 use pc_outside::NoMemory;
 use srs::{Piece, Placement};
 use std::alloc::Global;
+use tails::{TailSet, TailTree};
 use tiled_pieces::{Lister, TilingList};
 
 /// The most tilings that are listed at a position.
@@ -57,18 +59,20 @@ pub struct Marks {
     ghost hard: { drops ≡ true → IsHardSrs game },
 }
 
-/// What is asked about a piece that is placed: rests of hands, their numbers, and for each the index of the mark of its
-/// pieces and this one, if there is one.
+/// What is asked about a piece that is placed: rests of tails, their numbers and their hands, and for each the index of
+/// the mark of its pieces and this one, if there is one.
 #[derive(Drop)]
 pub struct Asked {
     pub piece: Piece,
     /// How many placements are to come after it.
     pub left: u8,
-    pub rests: HandSet,
-    pub numbers: Vec<u64>,
+    pub rests: TailSet,
+    pub tails: Vec<u64>,
+    pub hands: Vec<u64>,
     pub indexes: Vec<Option<u8>>,
     ghost few: { left ≤ 20 },
-    ghost listed: { (rest : ℕ) → has_number numbers.items rest ≡ has rests rest },
+    ghost listed: { (rest : ℕ) → has_number tails.items rest ≡ has rests rest },
+    ghost size: { length hands.items ≡ length tails.items },
 }
 
 /// The counts of the first `pieces` pieces of a hand and of one more piece.
@@ -142,7 +146,7 @@ fn may_stand(index: Option<u8>, standing: u64) -> bool
 
 impl Marks {
     ghost use Rattle.std.specs.Prelude.{[]};
-    ghost use Rattle.percent.specs.ListedHands.{HasIndexes, IsAbout, IsAskedAt};
+    ghost use Rattle.percent.specs.ListedHands.{HasHands, HasIndexes, IsAbout, IsAskedAt};
 
     /// Nothing is known yet about the empty cells of a position.
     pub fn new(alloc: Global, game: &Game, position: &Position) -> Marks
@@ -218,27 +222,32 @@ impl Marks {
     pub fn asked(
         &self,
         alloc: Global,
+        tree: &TailTree,
         piece: Piece,
         left: u8,
-        rests: HandSet,
+        rests: TailSet,
     ) -> Result<Asked, NoMemory>
-        requires { left ≤ 20 }
+        requires few { left ≤ 20 }
+        requires tails { AreTails tree.now (has rests) }
         ensures about { IfOk result (IsAbout piece left) }
         ensures rests { IfOk result (λ asked. asked.rests ≡ rests) }
+        ensures hands { IfOk result (HasHands tree.now) }
         ensures indexes { IfOk result (HasIndexes self.now) }
     {
-        let numbers = rests.numbers(alloc)?;
-        let mut indexes = Vec::with_capacity(alloc, numbers.len())?;
+        let tails = rests.numbers(alloc)?;
+        let hands = tree.hands(alloc, tails.as_slice())?;
+        let mut indexes = Vec::with_capacity(alloc, hands.len())?;
         let mut index = None;
-        for rest in &numbers {
-            index = self.index_with(*rest, left, piece, index);
+        for hand in &hands {
+            index = self.index_with(*hand, left, piece, index);
             indexes.push(index)?;
         }
         Ok(Asked {
             piece,
             left,
             rests,
-            numbers,
+            tails,
+            hands,
             indexes,
         })
     }
@@ -248,48 +257,59 @@ impl Marks {
         requires { HasIndexes self.now asked.now }
         ensures { IfSome result (IsMarkOf self.now.known.items asked.now.piece asked.now.left rest) }
     {
-        if at < asked.numbers.len() && asked.numbers[at] == rest {
+        if at < asked.hands.len() && asked.hands[at] == rest {
             return asked.indexes[at];
         }
         self.index_with(rest, asked.left, asked.piece, None)
     }
 
     /// Some of the rests asked about, with their indexes.
-    pub fn asked_of(&self, alloc: Global, asked: &Asked, rests: HandSet) -> Result<Asked, NoMemory>
-        requires { HasIndexes self.now asked.now }
+    pub fn asked_of(
+        &self,
+        alloc: Global,
+        tree: &TailTree,
+        asked: &Asked,
+        rests: TailSet,
+    ) -> Result<Asked, NoMemory>
+        requires indexes { HasIndexes self.now asked.now }
+        requires tails { AreTails tree.now (has rests) }
         ensures about { IfOk result (IsAbout asked.now.piece asked.now.left) }
         ensures rests { IfOk result (λ asked. asked.rests ≡ rests) }
+        ensures hands { IfOk result (HasHands tree.now) }
         ensures indexes { IfOk result (HasIndexes self.now) }
     {
-        let numbers = rests.numbers(alloc)?;
-        let mut indexes = Vec::with_capacity(alloc, numbers.len())?;
+        let tails = rests.numbers(alloc)?;
+        let hands = tree.hands(alloc, tails.as_slice())?;
+        let mut indexes = Vec::with_capacity(alloc, hands.len())?;
         let mut next = 0;
-        for rest in &numbers {
-            while next < asked.numbers.len() && asked.numbers[next] != *rest {
+        for index in 0..hands.len() {
+            while next < asked.tails.len() && asked.tails[next] != tails[index] {
                 next += 1;
             }
-            indexes.push(self.index_for(asked, next, *rest))?;
+            indexes.push(self.index_for(asked, next, hands[index]))?;
         }
         Ok(Asked {
             piece: asked.piece,
             left: asked.left,
             rests,
-            numbers,
+            tails,
+            hands,
             indexes,
         })
     }
 
     /// Those of the rests asked about with which a placement may stand in a tiling. The others are not good after it.
-    fn likely(&self, alloc: Global, child: &Child, asked: &Asked) -> Result<HandSet, NoMemory>
+    fn likely(&self, alloc: Global, child: &Child, asked: &Asked) -> Result<TailSet, NoMemory>
         requires asked { IsAskedAt self.now asked.now }
         requires child { IsChild self.now.game self.now.position asked.now.piece child.now }
         requires standing { IsStanding self.now.known.items self.now.rows child.now.placement child.now.standing }
-        ensures { IfOk result (λ likely. LeavesOutBad (is_good self.now.game (filled child.now.position.well)
+        ensures { IfOk result (λ likely. (tree : TailTree) → HasHands tree asked.now
+            → LeavesOutBad (is_good_tail tree self.now.game (filled child.now.position.well)
             child.now.position.rows asked.now.left) (has asked.now.rests) (has likely)) }
     {
-        let rests = asked.numbers.as_slice();
+        let rests = asked.tails.as_slice();
         let indexes = asked.indexes.as_slice();
-        let mut likely = HandSet::with_room_of(alloc, &asked.rests)?;
+        let mut likely = TailSet::with_room_of(alloc, &asked.rests)?;
         for index in 0..rests.len() {
             if may_stand(indexes[index], child.standing) {
                 likely.insert(rests[index])?;
@@ -305,11 +325,12 @@ impl Marks {
         fits: &mut FitMemory,
         child: &Child,
         asked: &Asked,
-    ) -> Result<HandSet, NoMemory>
+    ) -> Result<TailSet, NoMemory>
         requires asked { IsAskedAt self.now asked.now }
         requires child { IsChild self.now.game self.now.position asked.now.piece child.now }
         requires standing { IsStanding self.now.known.items self.now.rows child.now.placement child.now.standing }
-        ensures { IfOk result (λ likely. LeavesOutBad (is_good self.now.game (filled child.now.position.well)
+        ensures { IfOk result (λ likely. (tree : TailTree) → HasHands tree asked.now
+            → LeavesOutBad (is_good_tail tree self.now.game (filled child.now.position.well)
             child.now.position.rows asked.now.left) (has asked.now.rests) (has likely)) }
     {
         if self.is_empty() && asked.left > 0 {
@@ -318,7 +339,8 @@ impl Marks {
                 fits,
                 &child.position,
                 asked.left,
-                asked.numbers.as_slice(),
+                asked.tails.as_slice(),
+                asked.hands.as_slice(),
             );
         }
         self.likely(alloc, child, asked)

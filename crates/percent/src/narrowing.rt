@@ -1,4 +1,4 @@
-// Leaving out hands that no listed tiling serves, and tilings that serve no hand.
+// Leaving out tails whose hands no listed tiling serves, and tilings that serve no hand.
 ghost use Rattle.std.specs.Prelude.{◌≡◌, ◌≤◌, ◌<◌, ℕ, IfOk, Some, false, true, length, slice_get, slice_index_or};
 ghost use Rattle.std.specs.List.{Contains};
 ghost use Rattle.hands.specs.Numbers.{has_number};
@@ -7,10 +7,10 @@ ghost use Rattle.percent.specs.Building.{AreCountsOf, AreOwn, HasOwn};
 
 use crate::fitting::{Counts, are_same, counts_of};
 use crate::marks::Marks;
-use hands::HandSet;
 use hold_queue::Hold;
 use pc_outside::NoMemory;
 use std::alloc::Global;
+use tails::{TailSet, TailTree};
 use tiled_pieces::TilingList;
 
 /// The counts of each hand.
@@ -72,12 +72,13 @@ fn used_among(
 impl Marks {
     ghost use Rattle.std.specs.Prelude.{List, OnOk, vec_len};
     ghost use Rattle.well.specs.Well.{filled};
-    ghost use Rattle.hands.specs.HandSets.{has};
+    ghost use Rattle.tails.specs.TailSets.{has};
     ghost use Rattle.percent.specs.declared.marks.Mark.{Mark};
     ghost use Rattle.percent.specs.Building.{AreNarrowed, AreTested, IsUsedByAll, KeepsCounts};
     ghost use Rattle.percent.specs.GoodHands.{is_good};
+    ghost use Rattle.percent.specs.GoodTails.{is_good_tail};
     ghost use Rattle.percent.specs.LeftOut.{LeavesOutBad};
-    ghost use Rattle.percent.specs.ListedHands.{AreMarksOf};
+    ghost use Rattle.percent.specs.ListedHands.{AreMarksOf, AreMarksOfTails};
 
     /// Leaves out the tilings of a mark that are not used. All stay if there is not enough memory for a list without
     /// those.
@@ -194,26 +195,28 @@ impl Marks {
         }
     }
 
-    /// Those of the hands that a listed tiling may serve, with `left` placements to come. The others are not good.
-    /// Tilings that serve none of the hands are left out.
+    /// Those of the tails whose hands a listed tiling may serve, with `left` placements to come. The others are not good.
+    /// Tilings that serve none of these hands are left out.
     pub fn buildable(
         &mut self,
         alloc: Global,
+        tree: &TailTree,
         left: u8,
-        hands: &HandSet,
-    ) -> Result<HandSet, NoMemory>
+        tails: &TailSet,
+    ) -> Result<TailSet, NoMemory>
         requires left { left ≤ 20 }
-        requires lists { AreMarksOf self.old left (has hands.now) }
+        requires lists { AreMarksOfTails tree.now self.old left (has tails.now) }
         ensures game { OnOk result (self.new.game ≡ self.old.game) }
         ensures position { OnOk result (self.new.position ≡ self.old.position) }
-        ensures lists { IfOk result (λ likely. AreMarksOf self.new left (has likely)) }
-        ensures good { IfOk result (λ likely. LeavesOutBad (is_good self.old.game (filled self.old.position.well)
-            self.old.position.rows left) (has hands.now) (has likely)) }
+        ensures lists { IfOk result (λ likely. AreMarksOfTails tree.now self.new left (has likely)) }
+        ensures good { IfOk result (λ likely. LeavesOutBad (is_good_tail tree.now self.old.game
+            (filled self.old.position.well) self.old.position.rows left) (has tails.now) (has likely)) }
     {
-        let all = hands.numbers(alloc)?;
+        let all = tails.numbers(alloc)?;
         let numbers = all.as_slice();
-        let may = self.narrow(alloc, left, numbers)?;
-        let mut likely = HandSet::with_room_of(alloc, hands)?;
+        let hands = tree.hands(alloc, numbers)?;
+        let may = self.narrow(alloc, left, hands.as_slice())?;
+        let mut likely = TailSet::with_room_of(alloc, tails)?;
         for index in 0..numbers.len() {
             if may[index] {
                 likely.insert(numbers[index])?;

@@ -1,4 +1,4 @@
-// Worked cases of the search, of hands and of the answers about queues.
+// Worked cases of the search, of tails and of the answers about queues.
 #![tactic(auto)]
 
 #[cfg(test)]
@@ -9,8 +9,6 @@ mod cover_sets;
 mod good_queues;
 #[cfg(test)]
 mod good_queues_as_bits;
-#[cfg(test)]
-mod hand_sets;
 #[cfg(test)]
 mod key_words;
 #[cfg(test)]
@@ -23,3 +21,5 @@ mod searches;
 mod small_fields;
 #[cfg(test)]
 mod solutions_as_numbers;
+#[cfg(test)]
+mod tail_sets;

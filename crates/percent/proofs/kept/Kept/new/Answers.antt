@@ -6,8 +6,9 @@ use Rattle.percent.proofs.kept.Kept.new.Goals as goal
 pub invariant_of-result : goal.invariant_of-result
 invariant_of-result c =
     let slots = c.within_memory.result in record {
+      same_hold = c.requires;
       floods = c.new.ensures;
-      are_true = blank-true c.args.game slots c.within_memory.ensures.nothing;
+      are_true = blank-true c.args.tree c.args.game slots c.within_memory.ensures.nothing;
       counted = sym (blank-counted slots c.within_memory.ensures.nothing);
       bounded = omega arith;
     }

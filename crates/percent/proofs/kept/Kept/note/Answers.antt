@@ -12,8 +12,9 @@ invariant_of-self c =
     let kept = c.args.self.now in
     let slots = c.forget.new.self in
     record {
+      same_hold = kept.same_hold;
       floods = kept.floods;
-      are_true = blank-true kept.game slots c.forget.ensures.nothing;
+      are_true = blank-true kept.tree kept.game slots c.forget.ensures.nothing;
       counted = sym (blank-counted slots c.forget.ensures.nothing);
       bounded = omega arith;
     }

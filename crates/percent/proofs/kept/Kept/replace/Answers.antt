@@ -18,8 +18,9 @@ invariant_of-self c =
     let change = replaced kept.slots c.args.hash c.args.slot c.in-Some.before.now c.in-Some.ensures in
     let now = ap blocks_in c.put.ensures in
     record {
+      same_hold = kept.same_hold;
       floods = kept.floods;
-      are_true = subst (All (IsTrueSlot kept.game)) (sym c.put.ensures) (facts-put (IsTrueSlot kept.game) kept.slots c.args.hash c.args.slot c.requires.holds kept.are_true);
+      are_true = subst (All (IsTrueSlot kept.tree kept.game)) (sym c.put.ensures) (facts-put (IsTrueSlot kept.tree kept.game) kept.slots c.args.hash c.args.slot c.requires.holds kept.are_true);
       counted = omega (arith, few, change, now, kept.counted, c.block_count.ensures, c.block_count-in-Some.ensures);
       bounded = omega (arith, few, kept.counted, kept.bounded, c.requires.room, c.block_count.ensures, c.block_count-in-Some.ensures);
     }

@@ -1,4 +1,4 @@
--- Neither set has a hand.
+-- Neither set has a tail.
 use Rattle.std.proofs.Common.{arith}
 use Rattle.percent.specs.Kept.{blocks_of}
 use Rattle.percent.proofs.kept.SlotEntry.nothing.Goals as goal

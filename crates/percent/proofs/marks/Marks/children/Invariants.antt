@@ -1,5 +1,6 @@
 -- The positions so far and the places that are still held.
 use Rattle.std.proofs.Common.{All}
+use Rattle.hands.specs.Numbers.{has_number}
 use Rattle.percent.specs.Children.{IsChild}
 use Rattle.percent.specs.Marks.{IsStanding}
 use Rattle.well.specs.Well.{filled}
@@ -8,7 +9,7 @@ use Rattle.percent.proofs.marks.Marks.children.Given as goal
 
 abbrev pub invariant-loop-placement : goal.invariant-loop-placement
 invariant-loop-placement g l =
-    Entering l.kept.game (filled l.position.well) l.position.rows l.fn.asked.piece l.fn.asked.left l.fn.asked.rests l.children.items l.places
+    Entering l.kept.game (filled l.position.well) l.position.rows l.fn.asked.piece l.fn.asked.left (has_number l.fn.asked.hands.items) l.children.items l.places
     × All (IsChild l.self.game l.self.position l.fn.asked.piece) l.children.items
     × All (λ child. IsStanding l.self.known.items l.self.rows child.placement child.standing) l.children.items
 

@@ -6,7 +6,7 @@ use Rattle.lane_board.specs.Field.{Field, difference}
 use Rattle.srs.specs.Rules.{table_of}
 use Rattle.well.specs.Well.{filled}
 use Rattle.moves.proofs.CallerLemmas.{place-free}
-use Rattle.hands.specs.HandSets.{has}
+use Rattle.hands.specs.Numbers.{has_number}
 use Rattle.prune.specs.Tiling.{Supply, Tiling}
 use Rattle.empty_cells.specs.Empties.{all_but, empty_cells}
 use Rattle.percent.specs.Wanted.{IsWanted}
@@ -17,7 +17,7 @@ pub returns : goal.returns
 returns c = λ no rest here.
     let marks = c.args.self.now in
     let q = c.args.placement.now in
-    let wanted = subst (λ (o : Option ℕ). IfSome o (λ wanted. (rest : ℕ) → has c.args.asked.now.rests rest ≡ true → IsWanted marks.known.items q.piece c.args.asked.now.left rest wanted)) c.in-Some.is c.requires.wanted in
+    let wanted = subst (λ (o : Option ℕ). IfSome o (λ wanted. (rest : ℕ) → has_number c.args.asked.now.hands.items rest ≡ true → IsWanted marks.known.items q.piece c.args.asked.now.left rest wanted)) c.in-Some.is c.requires.wanted in
     bad-wanted marks q c.args.asked.now.left rest c.in-Some.wanted c.args.standing c.requires.place c.requires.below (c.requires.rests.each rest here) (wanted rest here) c.requires.standing
     (eqb-true (bit_and c.args.standing c.in-Some.wanted) 0 (not-false (bit_and c.args.standing c.in-Some.wanted == 0) no))
 

@@ -14,5 +14,5 @@ loop-index-preserved c =
 
 pub returns : goal.returns
 returns c =
-    all-wanted c.args.self.now.known.items c.args.asked.now.piece c.args.asked.now.left c.args.asked.now.rests c.args.asked.now.numbers.items c.args.asked.now.indexes.items c.deref-index-items.result.now c.loop-index.wanted c.loop-index.index-index
-    c.args.asked.now.listed c.requires c.deref-index-items.ensures.value c.loop-index.invariant (omega (arith, c.loop-index-test.false))
+    all-wanted c.args.self.now.known.items c.args.asked.now.piece c.args.asked.now.left c.args.asked.now.hands.items c.args.asked.now.indexes.items c.deref-index-items.result.now c.loop-index.wanted c.loop-index.index-index
+    c.requires c.deref-index-items.ensures.value c.loop-index.invariant (omega (arith, c.loop-index-test.false))

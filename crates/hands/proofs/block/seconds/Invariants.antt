@@ -1,6 +1,0 @@
-use Rattle.std.proofs.Common.{◌≡◌, ℕ, ◌+◌, ◌*◌, nat_lt, ◌&&◌}
-use Rattle.lane_board.specs.Lanes.{has_bit}
-use Rattle.hands.proofs.block.seconds.Given as goal
-
-abbrev pub invariant-loop-second : goal.invariant-loop-second
-invariant-loop-second l = (k : ℕ) → has_bit l.found k ≡ (nat_lt k l.second && has_bit l.pairs (k * 8 + l.code))
