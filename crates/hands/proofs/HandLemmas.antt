@@ -1,6 +1,5 @@
 -- Taking from pieces at hand is taking from their number.
-use Rattle.std.proofs.Common.{ℕ, ◌≡◌, ◌/◌, ◌%◌, ◌<◌, ◌^◌, Bool, true, false, not, ◌&&◌, ◌||◌, ◌==◌, List, [], ◌∷◌, length, sym, subst, ◌∙◌, inl, inr, arith, rules}
-use Rattle.std.proofs.Math.Bool.{and-false, and-true}
+use Rattle.std.proofs.Common.{ℕ, ◌≡◌, ◌/◌, ◌%◌, ◌<◌, ◌^◌, Bool, true, ◌&&◌, ◌||◌, ◌==◌, List, [], ◌∷◌, length, sym, subst, ◌∙◌, inl, inr, arith}
 use Rattle.std.proofs.lemmas.Bool.{and_from, and_parts, eq-eqb, eqb-true, or_cases, or_left, or_right}
 use Rattle.std.proofs.Math.Nat.{pow-succ'}
 use Rattle.srs.specs.declared.piece.Piece.{Piece}
@@ -80,11 +79,3 @@ pub number-below : (pieces : List Piece) → number_of pieces < 8 ^ length piece
 unfolding number_of
 number-below [] = omega arith
 number-below (piece ∷ pieces) = omega (arith, piece_code-small piece, number-below pieces, pow-succ' 8 (length pieces))
-
-untaken : (w a b c : Bool) → w ≡ (w && not ((a && false) || (b && (c && false))))
-untaken w a b c = rw (and-false a, and-false c, and-false b) (sym (and-true w))
-
--- where nothing may be left nothing is taken
-pub takes-none : (hold : Hold) (code : ℕ) (there : Bool) (goes_on : ℕ → Bool) (hand : ℕ) → ((rest : ℕ) → goes_on rest ≡ false) → there ≡ (there && not (takes hold code goes_on hand))
-unfolding takes
-takes-none hold code there goes_on hand none = search (rules, untaken)

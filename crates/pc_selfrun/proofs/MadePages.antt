@@ -67,7 +67,7 @@ drawn_fit (suc count) number state colour cells are =
       types = (record { size = sound.cells.size; units = λ units has. (short units has).units_fit }, rest.types);
     }
 
-few_pages : (count : ℕ) (rest : Option EncodeFault) → count ≤ 10000 → rest ≡ None → cond (ltb most_pages count) (Some fault.TooManyPages) rest ≡ None
+few_pages : (count : ℕ) (rest : Option EncodeFault) → count ≤ most_pages → rest ≡ None → cond (ltb most_pages count) (Some fault.TooManyPages) rest ≡ None
 few_pages count rest few none = rw (le-ltb most_pages count few) none
 
 pub made_count : (number pages : ℕ) → length (sample_pages number pages) ≡ pages
@@ -76,5 +76,5 @@ made_count number pages = length-pages_drawn pages number true (replicate 240 0)
 pub made_types : (number pages : ℕ) → AllByRecursion HasTypes (sample_pages number pages)
 made_types number pages = (drawn_fit pages 1 number true (replicate 240 0) empty_sound).types
 
-pub made_none : (number pages : ℕ) → pages ≤ 10000 → list_encode_fault V115 (sample_pages number pages) ≡ None
+pub made_none : (number pages : ℕ) → pages ≤ most_pages → list_encode_fault V115 (sample_pages number pages) ≡ None
 made_none number pages few = search (rules, few_pages, made_count, drawn_fit, empty_sound)

@@ -1,5 +1,6 @@
 // The command `selfrun`: sample pages, their text, the solutions of a problem, and then the lines.
 ghost use Rattle.std.specs.Prelude.{◌≡◌, ◌-◌, ◌≤◌, []};
+ghost use Rattle.fumen_pages.specs.Lists.{most_pages};
 ghost use Rattle.pc_source.specs.Ends.{CommandEnds};
 ghost use Rattle.pc_source.specs.Sink.{sink_change};
 ghost use Rattle.pc_selfrun.specs.SelfrunTask.{selfrun_task};
@@ -27,7 +28,7 @@ pub fn run_selfrun<O: Sink, L: Ledger>(
     steps: &mut Steps<L>,
 ) -> Status
     requires least { 1 ≤ pages }
-    requires most { pages ≤ 10000 }
+    requires most { pages ≤ most_pages }
     ensures { CommandEnds (selfrun_task number pages) []
         (sink_change O.counts_failures_alone (O.written out.old) (O.written out.new)
         (O.faults out.old) (O.faults out.new)) (out.new ≡ out.old) steps.old steps.new result }

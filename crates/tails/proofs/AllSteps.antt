@@ -58,10 +58,15 @@ run-begins first state held is = omega (arith, is)
 pub run-fits : (first state held : ℕ) → first ≡ tail_number state held 0 → state < 2 ^ 16 → held < 8 → first < 2 ^ 51
 run-fits first state held is within small = subst (λ n. n < 2 ^ 51) (sym is) (number-fits state held 0 within small (omega arith))
 
--- the tails of all queues, and no others than tails
+-- the tail of some queue
+abbrev pub IsOfQueue : (tree : TailTree) (held : Option Piece) (tail : ℕ) → Type 0
+IsOfQueue tree held tail = (number : ℕ) × (number < length (queues (elements_of tree.pattern))) × (tail ≡ start_tail tree held number)
+
+-- the tails of all queues, and no others
 pub record AreStarts (tree : TailTree) (held : Option Piece) (found : ℕ → Bool) : Type 0 where
   pub tails : AreTails tree found
   pub all : (number : ℕ) → number < length (queues (elements_of tree.pattern)) → found (start_tail tree held number) ≡ true
+  pub only : (tail : ℕ) → found tail ≡ true → IsOfQueue tree held tail
 
 pub run-starts : (tree : TailTree) (held : Option Piece) (tails : ℕ → Bool) (state code count : ℕ) → IsRun tails state code count
     → count ≡ length (queues (elements_of tree.pattern))
@@ -74,11 +79,16 @@ run-starts tree held tails state code count run count_is starts = record {
   all = λ number within.
       let start = starts number (tail_number state code number) within refl in
       subst (λ t. tails t ≡ true) start.value (run.each number (omega (arith, within, count_is)));
+  only = λ tail has.
+      let found = run.only tail has in
+      let within : found.0 < length (queues (elements_of tree.pattern)) = omega (arith, found.1, count_is) in
+      (found.0, within, (starts found.0 tail within found.2).value);
 }
 
 -- where the first letters are held: the tails behind those that were passed
 pub record AreBehind (tree : TailTree) (state : State) (found : ℕ → Bool) (count : ℕ) : Type 0 where
   pub tails : AreTails tree found
+  pub only : (tail : ℕ) → found tail ≡ true → IsOfQueue tree None tail
   pub all : (piece : Piece) → piece_code piece ≤ count → is_in piece state.set ≡ true → (place : ℕ) → place < state.each
       → found (tail_number (next_of state piece) (piece_code piece) place) ≡ true
 
@@ -87,6 +97,7 @@ pub behind-passed : (tree : TailTree) (state : State) (tails : ℕ → Bool) (co
     → AreBehind tree state tails count → AreBehind tree state tails (count + 1)
 behind-passed tree state tails count few out behind = record {
   tails = behind.tails;
+  only = behind.only;
   all = λ piece upto inside place below. elim (cases_lt (piece_code piece) (count + 1)) [
     | inl before ↦ behind.all piece (omega (arith, before)) inside place below
     | inr at ↦
@@ -137,7 +148,8 @@ first-start tree state piece number result first within there is =
 
 -- each tail behind a letter is that of a queue
 behind-letter : (tree : TailTree) (state : State) (piece : Piece) (place : ℕ) → IsFirst tree state → is_in piece state.set ≡ true → place < state.each
-    → IsTail tree (tail_number (next_of state piece) (piece_code piece) place)
+    → (number : ℕ) × (number < length (queues (elements_of tree.pattern)))
+    × IsStart tree None number (tail_number (next_of state piece) (piece_code piece) place)
 behind-letter tree state piece place first inside below =
     let there = piece-contained state.set piece inside in
     let index = there.0 in
@@ -146,8 +158,9 @@ behind-letter tree state piece place first inside below =
     let within : number < length (queues (elements_of tree.pattern)) = omega (arith, counted, block-within index state.each place (length (pieces_in state.set)) there.1 below) in
     let found : slice_get (pieces_in state.set) (number / state.each) ≡ Some piece =
     ap (slice_get (pieces_in state.set)) (block-div index state.each place below) ∙ slice_get-get_or (pieces_in state.set) index piece there.1 ∙ ap Some there.2 in
-    (first-start tree state piece number (tail_number (next_of state piece) (piece_code piece) place) first within found
-    (ap (tail_number (next_of state piece) (piece_code piece)) (sym (block-mod index state.each place below)))).tail
+    let start = first-start tree state piece number (tail_number (next_of state piece) (piece_code piece) place) first within found
+    (ap (tail_number (next_of state piece) (piece_code piece)) (sym (block-mod index state.each place below))) in
+    (number, within, start)
 
 -- one letter more
 pub behind-more : (tree : TailTree) (state : State) (tails run merged : ℕ → Bool) (count : ℕ) (next code : ℕ) → count < 7 → IsFirst tree state
@@ -162,7 +175,14 @@ behind-more tree state tails run merged count next code few first inside next_is
         | inl old ↦ behind.tails tail old
         | inr new ↦
             let found = run_is.only tail new in
-            subst (IsTail tree) (sym found.2) (behind-letter tree state letter found.0 first inside found.1)
+            subst (IsTail tree) (sym found.2) (behind-letter tree state letter found.0 first inside found.1).2.tail
+      ];
+      only = λ tail has. elim (or_cases (tails tail) (run tail) (sym (are tail) ∙ has)) [
+        | inl old ↦ behind.only tail old
+        | inr new ↦
+            let found = run_is.only tail new in
+            let start = behind-letter tree state letter found.0 first inside found.1 in
+            (start.0, start.1, found.2 ∙ start.2.value)
       ];
       all = λ piece upto within place below. elim (cases_lt (piece_code piece) (count + 1)) [
         | inl before ↦
@@ -179,6 +199,7 @@ behind-more tree state tails run merged count next code few first inside next_is
 pub behind-all : (tree : TailTree) (state : State) (tails : ℕ → Bool) (count : ℕ) → 7 ≤ count → IsFirst tree state → AreBehind tree state tails count → AreStarts tree None tails
 behind-all tree state tails count all first behind = record {
   tails = behind.tails;
+  only = behind.only;
   all = λ number within.
       let there = letter-there tree number state within first.is first.draws in
       let piece = get_or (pieces_in state.set) (number / state.each) I in

@@ -4,14 +4,14 @@ use Rattle.std.specs.List.{list_any}
 use Rattle.std.proofs.lemmas.Bool.{and_parts, both_ways, eqb-true, or_cases}
 use Rattle.std.proofs.lemmas.Bool.Decides.{nat_tests}
 use Rattle.tails.specs.declared.block.Block.{Block}
-use Rattle.tails.specs.declared.rests.Asked.{Asked}
+use Rattle.tails.specs.declared.rests.LastTakings.{LastTakings}
 use Rattle.tails.specs.declared.tail_set.TailSet.{TailSet}
 use Rattle.tails.specs.declared.takings.Taking.{Taking}
 use Rattle.tails.specs.declared.tree.TailTree.{TailTree}
 use Rattle.lane_board.specs.Lanes.{has_bit}
 use Rattle.tails.specs.Blocks.{IsBlock, have_parts, in_block}
 use Rattle.tails.specs.TailSets.{AreRests, has}
-use Rattle.tails.specs.Takings.{AreTakings, WasAsked, in_some, is_sent}
+use Rattle.tails.specs.Takings.{AreLastTakings, AreTakings, in_some, is_sent}
 use Rattle.tails.specs.Tails.{AreTails, IsTail, leads}
 use Rattle.tails.proofs.BlockRests.{HasTails, key-small, sent-all, sent-only}
 use Rattle.tails.proofs.EmptyLemmas.{parts-at}
@@ -64,11 +64,11 @@ pub read-key : (tree : TailTree) (tails : TailSet) (i : ℕ) (block : Block) →
 read-key tree tails i block are read =
     key-small tree block (subst IsBlock (sym read.is) (tails.each i read.default read.below)) (read-tails tree tails i block are read)
 
-pub asked-takings : (tree : TailTree) (code key : ℕ) (asked : Asked) (takings : List Taking) → WasAsked tree code asked → asked.front ≡ key / 2 ^ 26
-    → takings ≡ asked.takings.items → AreTakings tree (key / 2 ^ 26 / 8) (key / 2 ^ 26 % 8) code takings
-asked-takings tree code key asked takings was front is =
+pub last-takings : (tree : TailTree) (code key : ℕ) (last : LastTakings) (takings : List Taking) → AreLastTakings tree code last → last.front ≡ key / 2 ^ 26
+    → takings ≡ last.takings.items → AreTakings tree (key / 2 ^ 26 / 8) (key / 2 ^ 26 % 8) code takings
+last-takings tree code key last takings was front is =
     subst (λ (l : List Taking). AreTakings tree (key / 2 ^ 26 / 8) (key / 2 ^ 26 % 8) code l) (sym is)
-    (subst (λ (n : ℕ). AreTakings tree (n / 8) (n % 8) code asked.takings.items) front was.takings)
+    (subst (λ (n : ℕ). AreTakings tree (n / 8) (n % 8) code last.takings.items) front was.takings)
 
 pub read-more : (tree : TailTree) (tails : TailSet) (i : ℕ) (block : Block) (tail : ℕ) → IsRead tree tails i block
     → have_parts (take (i + 1) tails.blocks.items) (tail / 64) (tail % 64) ≡ (have_parts (take i tails.blocks.items) (tail / 64) (tail % 64) || in_block block tail)

@@ -4,7 +4,7 @@ use Rattle.std.specs.List.{list_any}
 use Rattle.srs.specs.declared.piece.Piece.{Piece}
 use Rattle.srs.specs.Piece.{piece_code}
 use Rattle.tails.specs.declared.block.Block.{Block}
-use Rattle.tails.specs.declared.rests.Asked.{Asked}
+use Rattle.tails.specs.declared.rests.LastTakings.{LastTakings}
 use Rattle.tails.specs.declared.states.State.{State}
 use Rattle.tails.specs.declared.takings.Taking.{Taking}
 use Rattle.tails.specs.declared.tree.TailTree.{TailTree}
@@ -63,6 +63,6 @@ pub record AreTakings (tree : TailTree) (state held code : ℕ) (takings : List 
   pub all : (tail : ℕ) (goes_on : ℕ → Bool) → IsTail tree tail → state_of tail ≡ state → held_of tail ≡ held
       → leads tree code goes_on tail ≡ list_any (λ taking. in_run taking tail && goes_on (left_of taking tail)) takings
 
--- the ways that were asked for
-pub record WasAsked (tree : TailTree) (code : ℕ) (asked : Asked) : Type 0 where
-  pub takings : AreTakings tree (asked.front / 8) (asked.front % 8) code asked.takings.items
+-- the ways in which a piece is taken from the tails of the last state
+pub record AreLastTakings (tree : TailTree) (code : ℕ) (last : LastTakings) : Type 0 where
+  pub takings : AreTakings tree (last.front / 8) (last.front % 8) code last.takings.items

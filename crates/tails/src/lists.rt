@@ -23,23 +23,23 @@ pub(crate) struct Lists {
 
 impl Lists {
     /// The number of the pieces of a tail: piece by piece as far as a state whose tails are listed.
-    pub(crate) fn number(&self, states: &[State], number: u16, place: u32) -> u64
+    pub(crate) fn number(&self, states: &[State], state_number: u16, place: u32) -> u64
         requires listing { (elements : List Element) × IsListing elements states.now self.now }
-        requires within { number < length states.now }
-        requires there { place < (state_at states.now number).count }
+        requires within { state_number < length states.now }
+        requires there { place < (state_at states.now state_number).count }
         ensures { (elements : List Element) → IsListing elements states.now self.now
-            → result ≡ number_at elements (state_at states.now number) place }
+            → result ≡ number_at elements (state_at states.now state_number) place }
     {
         let mut sum = 0;
         let mut unit = 1;
-        let mut number = usize::from(number);
+        let mut state_number = usize::from(state_number);
         let mut place = place;
         // (a tail has at most 21 pieces, and the state behind them ends the walk)
         for _ in 0..22u8 {
-            if let Some(start) = self.starts[number] {
+            if let Some(start) = self.starts[state_number] {
                 return sum + unit * self.numbers[start + place as usize];
             }
-            let state = states[number];
+            let state = states[state_number];
             if state.draws == 0 {
                 return sum;
             }
@@ -47,24 +47,24 @@ impl Lists {
             sum += unit * u64::from(piece.code());
             unit *= 8;
             place %= state.each;
-            number = usize::from(state.next[usize::from(piece.code())]);
+            state_number = usize::from(state.next[usize::from(piece.code())]);
         }
         sum
     }
 
     /// Lists the tails of one state.
-    fn list(&mut self, states: &[State], number: u16) -> Result<(), NoMemory>
+    fn list(&mut self, states: &[State], state_number: u16) -> Result<(), NoMemory>
         requires listing { (elements : List Element) × IsListing elements states.now self.old }
-        requires within { number < length states.now }
+        requires within { state_number < length states.now }
         ensures { OnOk result ((elements : List Element) → IsListing elements states.now self.old
             → IsListing elements states.now self.new) }
     {
         let start = self.numbers.len();
-        for place in 0..states[usize::from(number)].count {
-            let next = self.number(states, number, place);
+        for place in 0..states[usize::from(state_number)].count {
+            let next = self.number(states, state_number, place);
             self.numbers.push(next)?;
         }
-        self.starts[usize::from(number)] = Some(start);
+        self.starts[usize::from(state_number)] = Some(start);
         Ok(())
     }
 
@@ -81,9 +81,9 @@ impl Lists {
         };
         for index in (0..count).rev() {
             for set in 0..128 {
-                let number = u16::from(index) * 128 + set;
-                if states[usize::from(number)].count <= LISTED {
-                    lists.list(states, number)?;
+                let state_number = u16::from(index) * 128 + set;
+                if states[usize::from(state_number)].count <= LISTED {
+                    lists.list(states, state_number)?;
                 }
             }
         }

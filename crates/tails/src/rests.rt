@@ -6,7 +6,7 @@ ghost use Rattle.lane_board.specs.Lanes.{has_bit};
 ghost use Rattle.tails.specs.Tails.{AreTails, leads};
 ghost use Rattle.tails.specs.TailSets.{AreRests, has};
 ghost use Rattle.tails.specs.Blocks.{in_block};
-ghost use Rattle.tails.specs.Takings.{IsTaking, WasAsked, in_some, is_sent, runs_to};
+ghost use Rattle.tails.specs.Takings.{AreLastTakings, IsTaking, in_some, is_sent, runs_to};
 
 use crate::block::{Block, bits_below, bits_down, bits_up};
 use crate::laws::hands_are_taken_from_by_tails;
@@ -51,20 +51,20 @@ fn push_rests(rests: &mut Vec<Block>, block: Block, takings: &[Taking]) -> Resul
 
 /// The ways in which a piece can be taken from the tails of the last state that was asked about.
 #[derive(Drop)]
-struct Asked {
+struct LastTakings {
     /// The state and the held piece, as they stand in a tail's number.
     front: u64,
     takings: Takings,
 }
 
-impl Asked {
-    fn new(tree: &TailTree, piece: Piece, key: u64) -> Asked
+impl LastTakings {
+    fn new(tree: &TailTree, piece: Piece, key: u64) -> LastTakings
         requires { key < 2 ^ 45 }
-        ensures asked { WasAsked tree.now (piece_code piece) result }
+        ensures last { AreLastTakings tree.now (piece_code piece) result }
         ensures front { result.front ≡ key / 2 ^ 26 }
     {
         let front = key >> 26;
-        Asked {
+        LastTakings {
             front,
             takings: tree.takings((front / 8) as u16, (front % 8) as u8, piece),
         }
@@ -74,12 +74,12 @@ impl Asked {
     #[inline(always)]
     fn go_to(&mut self, tree: &TailTree, piece: Piece, key: u64)
         requires key { key < 2 ^ 45 }
-        requires asked { WasAsked tree.now (piece_code piece) self.old }
-        ensures asked { WasAsked tree.now (piece_code piece) self.new }
+        requires last { AreLastTakings tree.now (piece_code piece) self.old }
+        ensures last { AreLastTakings tree.now (piece_code piece) self.new }
         ensures front { self.new.front ≡ key / 2 ^ 26 }
     {
         if key >> 26 != self.front {
-            *self = Asked::new(tree, piece, key);
+            *self = LastTakings::new(tree, piece, key);
         }
     }
 }
@@ -147,10 +147,10 @@ impl TailSet {
     {
         hands_are_taken_from_by_tails();
         let mut rests = Vec::new(alloc);
-        let mut asked = Asked::new(tree, piece, 0);
+        let mut last = LastTakings::new(tree, piece, 0);
         for block in &self.blocks {
-            asked.go_to(tree, piece, block.key);
-            push_rests(&mut rests, *block, asked.takings.as_slice())?;
+            last.go_to(tree, piece, block.key);
+            push_rests(&mut rests, *block, last.takings.as_slice())?;
         }
         TailSet::of(alloc, rests)
     }
@@ -171,11 +171,11 @@ impl TailSet {
             return Ok(self);
         }
         let mut tails = TailSet::with_room_of(alloc, &self)?;
-        let mut asked = Asked::new(tree, piece, 0);
+        let mut last = LastTakings::new(tree, piece, 0);
         let mut next = 0;
         for block in &self.blocks {
-            asked.go_to(tree, piece, block.key);
-            let leading = rests.leading(&mut next, asked.takings.as_slice(), block.place());
+            last.go_to(tree, piece, block.key);
+            let leading = rests.leading(&mut next, last.takings.as_slice(), block.place());
             tails.add(Block {
                 key: block.key,
                 bits: bits_without(block.bits, leading),

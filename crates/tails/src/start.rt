@@ -59,12 +59,15 @@ impl TailTree {
         }
     }
 
-    /// The tails of all queues behind a held piece. No clause says that there are no others.
+    /// The tails of all queues behind a held piece, and no others.
     pub fn all(&self, alloc: Global, held: Option<Piece>) -> Result<TailSet, NoMemory>
         requires room { count_held (playable self.now.hold held) + queue_len (elements_of self.now.pattern) ≤ 21 }
         ensures tails { IfOk result (λ all. AreTails self.now (has all)) }
         ensures all { IfOk result (λ all. (number : ℕ) → number < length (queues (elements_of self.now.pattern))
             → has all (start_tail self.now held number) ≡ true) }
+        ensures only { IfOk result (λ all. (tail : ℕ) → has all tail ≡ true
+            → (number : ℕ) × (number < length (queues (elements_of self.now.pattern)))
+            × (tail ≡ start_tail self.now held number)) }
     {
         if let Some(piece) = self.hold.playable(held) {
             let first = tail_number(self.first, piece.code(), 0);
@@ -77,7 +80,7 @@ impl TailTree {
         }
     }
 
-    /// The tails of all queues, the first piece of which is held.
+    /// The tails of all queues, the first piece of which is held, and no others.
     fn all_behind_letters(&self, alloc: Global, state: State) -> Result<TailSet, NoMemory>
         requires hold { self.now.hold ≡ Allowed }
         requires state { state ≡ state_at self.now.states.items self.now.first }
@@ -85,6 +88,9 @@ impl TailTree {
         ensures tails { IfOk result (λ all. AreTails self.now (has all)) }
         ensures all { IfOk result (λ all. (number : ℕ) → number < length (queues (elements_of self.now.pattern))
             → has all (start_tail self.now None number) ≡ true) }
+        ensures only { IfOk result (λ all. (tail : ℕ) → has all tail ≡ true
+            → (number : ℕ) × (number < length (queues (elements_of self.now.pattern)))
+            × (tail ≡ start_tail self.now None number)) }
     {
         let mut all = TailSet::none(alloc);
         for letter in Piece::ALL {

@@ -14,7 +14,7 @@ use std::alloc::Global;
 
 /// A state of a pattern. The states of an element with each set of pieces have numbers side by side.
 #[derive(Clone, Copy)]
-pub struct State {
+pub(crate) struct State {
     /// The pieces that may be drawn next: bit `c - 1` stands for the piece with code `c`.
     pub(crate) set: u8,
     /// How many pieces of the element that is drawn from are still to be drawn: 0 only where nothing is.

@@ -54,13 +54,13 @@ fn push_letter(takings: &mut Takings, state: &State, first: u32, held: u8, code:
 
 impl TailTree {
     /// How a piece can be taken from the tails of a state behind a held piece.
-    pub(crate) fn takings(&self, number: u16, held: u8, piece: Piece) -> Takings
+    pub(crate) fn takings(&self, state_number: u16, held: u8, piece: Piece) -> Takings
         requires { held < 8 }
-        ensures { AreTakings self.now number held (piece_code piece) result.items }
+        ensures { AreTakings self.now state_number held (piece_code piece) result.items }
     {
         let mut takings = Takings::new();
         let code = piece.code();
-        let index = usize::from(number);
+        let index = usize::from(state_number);
         if self.states.len() <= index {
             return takings;
         }
@@ -73,7 +73,7 @@ impl TailTree {
                 takings.push(Taking {
                     first: 0,
                     count: 1,
-                    base: tail_number(number, 0, 0),
+                    base: tail_number(state_number, 0, 0),
                 });
             }
             return takings;

@@ -29,11 +29,11 @@ impl TailTree {
     fn want_all(&self, wanted: &mut Wanted, block: Block) {
         let front = block.key >> 26;
         want(wanted, (front % 8) as usize, block.bits.count_ones());
-        let number = (front / 8) as usize;
-        if self.states.len() <= number {
+        let state_number = (front / 8) as usize;
+        if self.states.len() <= state_number {
             return;
         }
-        let state = self.states[number];
+        let state = self.states[state_number];
         let each = u64::from(state.each);
         let place = block.place();
         let mut first = 0u64;

@@ -7,4 +7,4 @@ use Rattle.tails.proofs.lists.Lists.list.Given as goal
 
 abbrev pub invariant-loop-place : goal.invariant-loop-place
 invariant-loop-place l = (elements : List Element) → IsListing elements l.states l.fn.self
-    → Listing elements l.states l.self l.number l.start l.place
+    → Listing elements l.states l.self l.state_number l.start l.place

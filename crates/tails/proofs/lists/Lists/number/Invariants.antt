@@ -9,4 +9,4 @@ use Rattle.tails.proofs.lists.Lists.number.Given as goal
 
 abbrev pub invariant-loop : goal.invariant-loop
 invariant-loop l = (elements : List Element) → IsListing elements l.states l.self
-    → Reading elements l.states (number_at elements (state_at l.states l.fn.number) l.fn.place) l.number l.place l.counter l.unit l.sum
+    → Reading elements l.states (number_at elements (state_at l.states l.fn.state_number) l.fn.place) l.state_number l.place l.counter l.unit l.sum

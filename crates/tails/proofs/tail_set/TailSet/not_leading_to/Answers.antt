@@ -7,7 +7,7 @@ use Rattle.tails.specs.Tails.{leads}
 use Rattle.tails.proofs.KeptSteps.{kept-all, kept-none}
 use Rattle.tails.proofs.LeavingSteps.{all-stay, stay-more}
 use Rattle.tails.proofs.PartLemmas.{no_block}
-use Rattle.tails.proofs.RestLists.{asked-takings, read-block, read-key}
+use Rattle.tails.proofs.RestLists.{last-takings, read-block, read-key}
 use Rattle.tails.proofs.tail_set.TailSet.not_leading_to.Goals as goal
 
 pub returns-then-is_empty : goal.returns-then-is_empty
@@ -16,7 +16,7 @@ returns-then-is_empty c =
 
 pub loop-block-init : goal.loop-block-init
 loop-block-init c = record {
-  asked = c.new-asked.ensures.asked;
+  last = c.new-last.ensures.last;
   stay = kept-none (leads c.args.tree.now (piece_code c.args.piece) (has c.args.rests.now)) c.args.self.blocks.items c.in_ok-tails.tails c.in_ok-tails.ensures;
 }
 
@@ -34,12 +34,12 @@ add-requires c =
 
 pub loop-block-preserved : goal.loop-block-preserved
 loop-block-preserved c = record {
-  asked = c.go_to.ensures.asked;
+  last = c.go_to.ensures.last;
   stay =
       stay-more c.args.tree.now (piece_code c.args.piece) c.args.rests.now c.args.self c.loop-block.tails c.add.new.self c.loop-block.block-index _ c.as_slice.result.now
       c.leading-leading.result c.bits_without.result c.requires
       (read-block c.args.tree.now c.args.self c.deref-block-items.result.now c.loop-block.block-index _ c.deref-block-items.ensures.value c.loop-block-test.true)
-      (asked-takings c.args.tree.now (piece_code c.args.piece) _ c.go_to.new.self c.as_slice.result.now c.go_to.ensures.asked c.go_to.ensures.front c.as_slice.ensures.value)
+      (last-takings c.args.tree.now (piece_code c.args.piece) _ c.go_to.new.self c.as_slice.result.now c.go_to.ensures.last c.go_to.ensures.front c.as_slice.ensures.value)
       (record {
         leads_are = λ k.
             c.leading-leading.ensures k

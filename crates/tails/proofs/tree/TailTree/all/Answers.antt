@@ -37,6 +37,14 @@ returns-in-Some-clause-all c =
     (λ number result within is. start-held c.args.self.now c.args.held c.in-Some.piece number result (sym c.playable.ensures ∙ c.in-Some.is) within c.requires.room is)).all)
     c.run.ensures
 
+pub returns-in-Some-clause-only : goal.returns-in-Some-clause-only
+returns-in-Some-clause-only c =
+    IfOk-weaker c.run.result _ _ (λ found are.
+    (run-starts c.args.self.now c.args.held (has found) c.args.self.now.first (piece_code c.in-Some.piece) c.count.result
+    (run-is (has found) c.tail_number-first.result c.count.result c.args.self.now.first (piece_code c.in-Some.piece) (c.tail_number-first.ensures ∙ ap (λ n. tail_number c.args.self.now.first n 0) c.code.ensures) are) c.count.ensures.number
+    (λ number result within is. start-held c.args.self.now c.args.held c.in-Some.piece number result (sym c.playable.ensures ∙ c.in-Some.is) within c.requires.room is)).only)
+    c.run.ensures
+
 pub index-state-requires : goal.index-state-requires
 index-state-requires c = let within = first-within c.args.self.now 0 (pattern-some c.args.self.now.pattern) in omega (arith, within, c.from.ensures)
 
@@ -79,4 +87,19 @@ returns-in_default-hold-clause-all c =
           (ap (λ (s : State). s.draws) (sym state_is) ∙ omega (arith, w.if-state-gt0.false)) is
       | in_default-hold-via-in_default-hold w ↦ start-avoided c.args.self.now c.args.held number result w.in_default-hold.is within is
     ])).all)
+    c.run-in_default-hold.ensures
+
+pub returns-in_default-hold-clause-only : goal.returns-in_default-hold-clause-only
+returns-in_default-hold-clause-only c =
+    let state_is = first-state c.args.self.now 0 c.from.result c.index-state.result.now (pattern-some c.args.self.now.pattern) c.from.ensures c.index-state.ensures in
+    let count_is : c.index-state.result.now.count ≡ length (queues (elements_of c.args.self.now.pattern)) = ap (λ (s : State). s.count) state_is ∙ c.args.self.now.first_count in
+    IfOk-weaker c.run-in_default-hold.result _ _ (λ found are.
+    (run-starts c.args.self.now c.args.held (has found) c.args.self.now.first 0 c.index-state.result.now.count
+    (run-is (has found) c.tail_number.result c.index-state.result.now.count c.args.self.now.first 0 c.tail_number.ensures are) count_is
+    (λ number result within is. elim c.in_default-hold.branch [
+      | in_default-hold-via-in-Allowed+else-state-gt0 w ↦
+          start-end c.args.self.now c.args.held number result w.in-Allowed.is (sym c.playable.ensures ∙ c.in_default.is) within
+          (ap (λ (s : State). s.draws) (sym state_is) ∙ omega (arith, w.if-state-gt0.false)) is
+      | in_default-hold-via-in_default-hold w ↦ start-avoided c.args.self.now c.args.held number result w.in_default-hold.is within is
+    ])).only)
     c.run-in_default-hold.ensures

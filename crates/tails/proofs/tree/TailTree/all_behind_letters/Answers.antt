@@ -42,3 +42,8 @@ pub returns-clause-all : goal.returns-clause-all
 returns-clause-all c =
     (behind-all c.args.self.now c.args.state (has c.loop-letter.all) c.loop-letter.letter-index (omega arith)
     (first-is c.args.self.now c.args.state c.requires.hold c.requires.state c.requires.draws) c.loop-letter.invariant).all
+
+pub returns-clause-only : goal.returns-clause-only
+returns-clause-only c =
+    (behind-all c.args.self.now c.args.state (has c.loop-letter.all) c.loop-letter.letter-index (omega arith)
+    (first-is c.args.self.now c.args.state c.requires.hold c.requires.state c.requires.draws) c.loop-letter.invariant).only
