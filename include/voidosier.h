@@ -159,8 +159,8 @@ uint8_t voidosier_good_queues(const char *words, size_t words_size,
  *   VOIDOSIER_NO_SEQUENCE    after has some bytes, and they are not the numbers of as many placements as a solution
  *                            has, each with a column from 0 to 9 and a row from 0 to 22.
  *
- * At each status but VOIDOSIER_DONE placements has nothing, the other numbers are 0, and no flood was made. err has
- * something at VOIDOSIER_FAULT alone.
+ * At each status but VOIDOSIER_DONE placements has nothing, placements_length, count, ended and floods are 0, and no
+ * flood was made. err has something at VOIDOSIER_FAULT alone.
  */
 uint8_t voidosier_solutions(const char *words, size_t words_size,
                             const char *input, size_t input_size,
