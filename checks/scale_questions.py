@@ -14,7 +14,7 @@ ODD_PATTERNS = [
     "[^TT]p4", "[ILOZTJSI]p7", "*p7,*p7", "*p4,*p9", "*p8", "*p0", "* p4", "*p4,", " ,*p4", "\t*p4", "*p4\n", "*p4 'T'", '"*p4"', "$(T)*p3",
     "`T`", "T;*p3", "T&*p3", "T|*p3", "*p4#", "%2Ap4", "\\*p4", "-*p4", "ä*p4", "", ",", "[]p1", "[^ILOZTJS]", "[TSZ", "*p4]", "{1}*p4", "{}",
 ]
-PATTERNS = ["*p4", "*!", "[tsz]p3", "t,[sz]!", "T [SZ]p2", "[T]!,*p3", "[^]p3", "[^i]p4", "IIII", "TSZ", "[sz],[SZ]p1 , *", "*,*,*", "[TSZ]!"]
+PATTERNS = ["*p4", "*!", "[tsz]p3", "t,[sz]!", "T [SZ]p2", "[T]!,*p3", "[^]p3", "[^i]p4", "IIII", "TSZ", "[sz],[SZ]p1 , *", "T,\t[SZ]p2", "*,*,*", "[TSZ]!"]
 
 PERCENT = (
     [[*OPENER, "--patterns", it, "--failed", "9"] for it in PATTERNS + ODD_PATTERNS]

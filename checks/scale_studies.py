@@ -58,6 +58,10 @@ def resumed(checks, workshop):
     checks.same("a study", (wanted[0], wanted[1].count(b"\t514\t840\t6119\t\n"), wanted[2]), (0, 60, b""))
     for engine in workshop.engines:
         log, answers = workshop.file(f"log-{engine}"), workshop.file(f"answers-{engine}")
+        # (files of others stay)
+        os.makedirs(os.path.join(answers, "mine"))
+        for name in ("mine.seq", "mine/1.seq"):
+            open(os.path.join(answers, name), "w").close()
         # Notes what it is asked, fails once, and hangs from the tenth question on, until it goes on.
         slow = workshop.stand_in(f"slow-{engine}", f"""
 case "$*" in
@@ -87,7 +91,8 @@ esac""")
         checks.same(f"{engine}: questions asked again", (len(set(whole)), 0 < len(whole) - len(set(whole)) <= 4, 9 < len(first) < 13), (40, True, True))
         record = open(os.path.join(answers, "1"), encoding="utf-8").read().splitlines()
         checks.same(f"{engine}: a record", (record[0], record[-1]), (f"question percent,--tetfu,{FUMEN},--patterns,%2Ap4,--failed,0", "status 0"))
-        checks.same(f"{engine}: nothing else is in the folder", sorted(it for it in os.listdir(answers) if not it.isdigit()), ["lock"])
+        checks.same(f"{engine}: nothing else is in the folder", sorted(it for it in os.listdir(answers) if not it.isdigit()), ["lock", "mine", "mine.seq"])
+        checks.same(f"{engine}: files of others", os.listdir(os.path.join(answers, "mine")), ["1.seq"])
         words = [*OPENER, "--patterns", "*p4", "--failed", "11"]
         for _ in range(2):
             checks.same(f"{engine}: parts that keep their answers", workshop.run(engine, "percent-parts", *words, options=["--answers", answers]), workshop.one("percent", *words))

@@ -23,11 +23,26 @@ asks_for_help() {
     return 1
 }
 
+# A word between quotes, as it is safe to show.
+shown() (
+    LC_ALL=C
+    # shellcheck source=scripts/explain.d/shown.sh
+    . "$shared/explain.d/shown.sh"
+    quote "$1"
+    printf '%s\n' "${quoted:?}"
+)
+
 help() {
-    "$shared/help" "$called" "$@" || {
-        say "there is no command $1; $called help lists them"
+    local status=0
+    "$shared/help" "$called" "$@" 2>/dev/null || status=$?
+    case $status in
+    0) ;;
+    1)
+        say "there is no command $(shown "$1"); $called help lists them"
         exit 2
-    }
+        ;;
+    *) exit 4 ;;
+    esac
 }
 
 # One line that says what a fault line means after these words; status 1 where there is none to say.
@@ -38,16 +53,16 @@ explain() {
         say "give the fault line, as in: $called explain 'input: Words.MissingOption 3' path --rows XXXXXX____"
         exit 2
     fi
-    explained "$@" || {
-        say "this is no fault line of the program: $1"
-        exit 1
-    }
+    local status=0
+    explained "$@" || status=$?
+    ((status != 1)) || say "this is no fault line of the program: $(shown "$1")"
+    exit "$status"
 }
 
 # Whether the words give a fumen text to a command that reads it from standard input.
 gives_text() {
     case "${1-}" in
-    show | decode | encode) [ -n "${2-}" ] && [ "${2#--}" = "$2" ] ;;
+    show | decode | encode) [ -n "${2-}" ] && [ "${2#-}" = "$2" ] ;;
     *) false ;;
     esac
 }

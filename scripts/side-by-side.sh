@@ -14,6 +14,7 @@ engine=
 writer=
 batch=
 resumes=
+tidies=
 
 # A write whose reader is gone fails, and ends no script.
 trap '' PIPE
@@ -40,7 +41,7 @@ read_words() {
             exit
             ;;
         --answers | --program | --batch)
-            (($# > 1)) || refuse "$1 has no value"
+            [ -n "${2-}" ] || refuse "$1 has no value"
             case $1 in
             --answers) kept=$2 ;;
             --program) there=$2 ;;
@@ -90,11 +91,12 @@ prepare() {
     if [ -z "$kept" ]; then
         mkdir "$scratch/answers" || exit 4
     else
-        mkdir -p -- "$kept" && ln -s "$(cd -- "$kept" && pwd)" "$scratch/answers" || exit 4
+        mkdir -p -- "$kept" && ln -s "$(readlink -f -- "$kept")" "$scratch/answers" || exit 4
         if command -v flock >/dev/null 2>&1; then
             exec {lock}>"$kept/lock" || exit 4
             flock -n "$lock" || refuse "another run uses the answers in $kept"
         fi
+        tidies=yes
     fi
 }
 
@@ -222,12 +224,14 @@ batches() {
 # How many questions xargs asks at once, which knows no other option.
 count_jobs() {
     local said=${options[*]-}
-    case $said in
-    '') jobs=$(nproc) ;;
-    '--jobs '* | '-j '* | --jobs=* | -j*) jobs=${said##*[!0-9]} ;;
+    case ${#options[@]},$said in
+    0,) jobs=$(nproc) ;;
+    '2,--jobs '* | '2,-j '*) jobs=${options[1]} ;;
+    1,--jobs=*) jobs=${said#--jobs=} ;;
+    1,-j*) jobs=${said#-j} ;;
     *) jobs= ;;
     esac
-    if ! [[ $jobs =~ ^[1-9][0-9]*$ ]] || ((${#options[@]} > 2)); then
+    if ! [[ $jobs =~ ^[1-9][0-9]*$ ]]; then
         refuse "without GNU parallel there is no option but --jobs N"
     fi
 }
@@ -240,7 +244,7 @@ ask() {
     encode_word "${there:-$program}"
     if [ -n "$jobs" ]; then
         # shellcheck disable=SC2016
-        xargs -d '\n' -n 1 -P "$jobs" bash -c '
+        xargs -r -d '\n' -n 1 -P "$jobs" bash -c '
             bash "$1" "$2" "${6#*[[:blank:]]}" "$4" >"$3/answers/${6%%[[:blank:]]*}"
             status=$?
             if [ "$status" = 4 ]; then : >"$3/full"; fi
@@ -300,9 +304,11 @@ write_out() {
     writer=
 }
 
-# Takes away what GNU parallel leaves beside the records: their places in the list, and errors where there are none.
+# Takes away what GNU parallel leaves beside the records: their places in the list, and errors where there are none. The
+# folder may have files of others, and other runs' answers until this one has its lock.
 tidy() {
-    [ -z "$kept" ] || find "$scratch/answers/" \( -name '*.seq' -o -name '*.err' -empty \) -delete
+    [ -z "$tidies" ] ||
+        find "$scratch/answers/" -maxdepth 1 \( -regex '.*/[0-9]+\.seq' -o -regex '.*/[0-9]+\.err' -empty \) -delete
 }
 
 # The status of the record in a file, nothing where it has none.

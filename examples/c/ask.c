@@ -52,9 +52,12 @@ static int ask(const struct question *asked, size_t room) {
 int main(void) {
     const size_t last = sizeof questions / sizeof *questions - 1;
     size_t i, room = 256;
+    int status;
 
-    for (i = 0; i < last; i++) ask(&questions[i], 4096);
+    for (i = 0; i < last; i++)
+        if (ask(&questions[i], 4096) == VOIDOSIER_NO_MEMORY) return VOIDOSIER_NO_MEMORY;
     /* Where the answer doesn't fit, what is there is a front of it, and twice the room may do. */
-    while (ask(&questions[last], room) == VOIDOSIER_NO_ROOM) room *= 2;
-    return fflush(stdout) == 0 ? 0 : 1;
+    while ((status = ask(&questions[last], room)) == VOIDOSIER_NO_ROOM) room *= 2;
+    if (status != VOIDOSIER_DONE) return status;
+    return fflush(stdout) == 0 && !ferror(stdout) ? 0 : 1;
 }

@@ -57,5 +57,5 @@ int main(void) {
     if (status != VOIDOSIER_DONE) return status;
     printf("queues %lu\ngood %lu\n", (unsigned long)queues, (unsigned long)good);
     printf("rate %llu\n", 10000ULL * good / queues);
-    return fflush(stdout) == 0 ? 0 : 1;
+    return fflush(stdout) == 0 && !ferror(stdout) ? 0 : 1;
 }

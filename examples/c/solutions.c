@@ -44,5 +44,5 @@ int main(void) {
         /* The next call goes on behind the last of these. */
         memcpy(after, placements + length - size, size);
     }
-    return fflush(stdout) == 0 ? 0 : 1;
+    return fflush(stdout) == 0 && !ferror(stdout) ? 0 : 1;
 }

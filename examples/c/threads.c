@@ -71,5 +71,5 @@ int main(void) {
         failed += questions[i].differ;
     }
     if (failed != 0) fprintf(stderr, "threads: %d answers differ\n", failed);
-    return fflush(stdout) != 0 || failed != 0;
+    return fflush(stdout) != 0 || ferror(stdout) || failed != 0;
 }
