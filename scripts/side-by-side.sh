@@ -199,7 +199,7 @@ use_rows() {
 
 # All records, those that were asked later behind the others.
 records() {
-    (cd "$scratch/answers" && find . -type f | sed -n 's|^./\([0-9]*\)$|\1|p' | sort -n | xargs -r awk 1)
+    (cd "$scratch/answers" && find . -maxdepth 1 -type f | sed -n 's|^./\([0-9]*\)$|\1|p' | sort -n | xargs -r awk 1)
 }
 
 # Of the questions in a file, a line each, those that no record answers with status 0.
@@ -213,7 +213,7 @@ open_questions() {
 # The questions of standard input in lines for `ask`, so many in each line.
 batches() {
     local last
-    last=$(find "$scratch/answers/" -type f | sed -n 's|.*/\([0-9]*\)$|\1|p' | sort -n | tail -n 1)
+    last=$(find "$scratch/answers/" -maxdepth 1 -type f | sed -n 's|.*/\([0-9]*\)$|\1|p' | sort -n | tail -n 1)
     awk -v most="$1" -v last="${last:-0}" '
         function written() { if (count) print ++last "\t" line; count = 0 }
         count && (count == most || length(line) + length($0) > 20000) { written() }
