@@ -27,7 +27,7 @@ pub record IsTreeOf (problem : Problem) (elements : List Element) (tree : TailTr
 unfoldable pub numbered_tail : Problem → TailTree → ℕ → ℕ → ℕ
 numbered_tail problem tree alike number = start_tail tree problem.held (number / alike)
 
--- so many queues have each cut queue as a front
+-- there are so many times as many queues as cut ones
 pub record BeginAlike (problem : Problem) (tree : TailTree) (alike : ℕ) : Type 0 where
   pub some : 0 < alike
   pub all : length (queues (elements_of problem.pattern)) ≡ alike * length (queues (elements_of tree.pattern))

@@ -15,7 +15,7 @@ use std::alloc::Global;
 use std::sync::ledger::Ledger;
 use tails::{TailSet, TailTree};
 
-/// How many queues have each queue of a cut pattern as a front.
+/// How many times as many queues there are as cut ones: each cut queue is the front of so many.
 fn alike(problem: &Problem, tree: &TailTree) -> u32
     requires { IsTreeOf problem.now (elements_of problem.now.pattern) tree.now }
     ensures { BeginAlike problem.now tree.now result }

@@ -60,7 +60,7 @@ impl Entry for Verdict {
 /// How many verdicts are remembered. Eight bits of a hash say where each stands.
 const VERDICTS: usize = 256;
 
-/// Remembers which pieces can't fill which cells. A later verdict evicts an earlier one.
+/// Remembers which pieces can fill which cells, and which cannot. A later verdict evicts an earlier one.
 #[derive(Drop)]
 pub struct FitMemory {
     tilings: TilingStore,

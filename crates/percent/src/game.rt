@@ -1,5 +1,5 @@
 // What stays the same in a search.
-ghost use Rattle.std.specs.Prelude.{◌≡◌, true};
+ghost use Rattle.std.specs.Prelude.{◌↔◌, IsTrue};
 
 use hold_queue::Hold;
 use moves::DropMode;
@@ -18,7 +18,7 @@ impl Game {
 
     /// Whether nothing may lie above a placement: with hard drops by the Super Rotation System.
     pub fn drops(&self) -> bool
-        ensures { result ≡ true → IsHardSrs self.now }
+        ensures { IsTrue result ↔ IsHardSrs self.now }
     {
         match self.drop_mode {
             DropMode::Hard => self.rules.is_srs(),

@@ -51,7 +51,7 @@ impl Entry for Slot {
     }
 }
 
-/// The most blocks of answers that are kept, of 16 bytes each.
+/// The most blocks of answers that are kept, of 16 bytes each. A union has room for twice its blocks at most.
 const MOST: usize = 3_145_728;
 
 /// A store of answers, and what else a search for good tails remembers. A later entry evicts an earlier one. All are
@@ -152,7 +152,7 @@ impl Kept {
     }
 
     /// Those of the tails that are known to be good at a position, and those about which nothing is known. `None` if
-    /// nothing is known of the position.
+    /// nothing is known of the position. No clause says that what was kept is found again.
     pub fn recalled(
         &self,
         alloc: Global,

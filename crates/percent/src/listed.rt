@@ -58,7 +58,7 @@ pub fn marks_of(
     requires { left ≤ 20 }
     ensures game { result.game ≡ game.now }
     ensures position { result.position ≡ position.now }
-    ensures all { (left : ℕ) (hands : ℕ → Bool) → AreMarksOf result left hands }
+    ensures all { (to_come : ℕ) (any : ℕ → Bool) → AreMarksOf result to_come any }
 {
     let most = most_counts(game.hold, position.rows, left);
     let all = all_counts(alloc, hands, left + 1, most);

@@ -20,18 +20,6 @@ pub record ArePushed (old numbers : List ℕ) (block : Block) (bits : ℕ) : Typ
       ≡ (has_number old tail || ((block.key == tail / 64) && (has_bit block.bits (tail % 64) && not (has_bit bits (tail % 64)))))
   pub within : (k : ℕ) → has_bit bits k ≡ true → has_bit block.bits k ≡ true
 
-none_passed : (o q a : Bool) → o ≡ (o || (q && (a && not a)))
-none_passed true q a = refl
-none_passed false true true = refl
-none_passed false true false = refl
-none_passed false false a = refl
-
-pub pushed-none : (numbers : List ℕ) (block : Block) → ArePushed numbers numbers block block.bits
-pushed-none numbers block = record {
-  members = λ tail. none_passed (has_number numbers tail) (block.key == tail / 64) (has_bit block.bits (tail % 64));
-  within = λ k there. there;
-}
-
 one_more : (o q a e s : Bool) → (s ≡ true → e ≡ true) → (e ≡ true → a ≡ true) → ((o || (q && (a && not e))) || (q && s)) ≡ (o || (q && (a && not (e && not s))))
 one_more true q a e s s_e e_a = refl
 one_more false false a e s s_e e_a = refl

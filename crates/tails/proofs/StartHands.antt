@@ -1,5 +1,5 @@
 -- The tail of each queue, and the pieces at hand there, without a call that makes it.
-use Rattle.std.proofs.Common.{◌≡◌, ℕ, ◌+◌, ◌<◌, ◌≤◌, Option, Some, None, [], get_or, length, refl, ap, sym, subst, ◌∙◌, inl, inr, arith, ◌%◌}
+use Rattle.std.proofs.Common.{◌≡◌, ℕ, ◌+◌, ◌<◌, ◌≤◌, Option, Some, None, [], get_or, length, refl, ap, sym, ◌∙◌, inl, inr, arith, ◌%◌}
 use Rattle.std.proofs.lemmas.Bool.{cases_lt}
 use Rattle.srs.specs.declared.piece.Piece.{Piece}
 use Rattle.srs.specs.Piece.{piece_code}
@@ -12,7 +12,7 @@ use Rattle.hands.specs.Hands.{number_of}
 use Rattle.tails.specs.declared.tree.TailTree.{TailTree}
 use Rattle.tails.specs.Numbers.{tail_number}
 use Rattle.tails.specs.States.{state_at}
-use Rattle.tails.specs.Tails.{IsTail, hand_at, start_tail}
+use Rattle.tails.specs.Tails.{hand_at, start_tail}
 use Rattle.tails.proofs.LetterLemmas.{letter-found, next_of}
 use Rattle.tails.proofs.StartLemmas.{IsStart, first-there, first-within, start-avoided, start-end, start-held, start-letter}
 
@@ -43,13 +43,7 @@ start-by-hold tree Allowed (Some piece) number is within room = (
   start-held tree (Some piece) piece number (tail_number tree.first (piece_code piece) number) (ap (λ hold. playable hold (Some piece)) is) within room refl,
 )
 
--- the start of a queue is a tail
-pub start-tail : (tree : TailTree) (held : Option Piece) (number : ℕ) → number < length (queues (elements_of tree.pattern)) → HasRoom tree held
-    → IsTail tree (start_tail tree held number)
-start-tail tree held number within room =
-    let start = start-by-hold tree tree.hold held number refl within room in subst (IsTail tree) start.1.value start.1.tail
-
--- with the queue's pieces at hand
+-- the start of a queue has the queue's pieces at hand
 pub start-hand : (tree : TailTree) (held : Option Piece) (number : ℕ) → number < length (queues (elements_of tree.pattern)) → HasRoom tree held
     → hand_at tree (start_tail tree held number) ≡ number_of (at_hand tree.hold held (get_or (queues (elements_of tree.pattern)) number []))
 start-hand tree held number within room =

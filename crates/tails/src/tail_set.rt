@@ -188,7 +188,7 @@ impl TailSet {
         Ok(numbers)
     }
 
-    /// How many blocks it has. Each takes 16 bytes.
+    /// How many blocks it has. A block takes 16 bytes, and a set may have room for more.
     pub fn block_count(&self) -> usize
         ensures value { result ≡ block_count self.now }
         ensures few { result < 2 ^ 63 }

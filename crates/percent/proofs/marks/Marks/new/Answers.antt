@@ -8,5 +8,5 @@ pub invariant_of-result : goal.invariant_of-result
 invariant_of-result c =
     let p = c.args.position.now in record {
       spread = spread-own (filled p.well) (empty_cells c.below.result) p.rows p.few c.below.ensures;
-      hard = c.drops.ensures;
+      hard = c.drops.ensures.0;
     }
